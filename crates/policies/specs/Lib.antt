@@ -1,0 +1,5 @@
+pub mod FirstKept
+pub mod Halving
+pub mod Kept
+pub mod Retentions
+pub mod Settings

@@ -1,0 +1,43 @@
+//! Any of the policies, chosen while the program runs.
+ghost use mathlib.Core.Path.{_≡_};
+ghost use Rattle.policies.specs.Retentions.{keptBy};
+use crate::all::All;
+use crate::all::AllPolicy;
+use crate::halving::Halving;
+use crate::halving::HalvingPolicy;
+use crate::policy::Policy;
+use crate::window::Window;
+use crate::window::WindowPolicy;
+use values::moment::Moment;
+use crate::halving::HalvingDebug;
+use crate::halving::HalvingPartialEq;
+use crate::window::WindowDebug;
+use crate::window::WindowPartialEq;
+
+/// A policy of any kind.
+#[derive(Clone, Copy, PartialEq, Eq, Debug)]
+pub enum Retention {
+    All,
+    Window(Window),
+    Halving(Halving),
+}
+
+pub impl Policy for Retention as RetentionPolicy {
+    ghost kept = { keptBy };
+
+    fn keeps(&self, t: Moment, present: Moment) -> bool {
+        match *self {
+            Retention::All => All.keeps(t, present),
+            Retention::Window(window) => window.keeps(t, present),
+            Retention::Halving(halving) => halving.keeps(t, present),
+        }
+    }
+
+    fn first_kept(&self, from: Moment, present: Moment) -> Option<Moment> {
+        match *self {
+            Retention::All => All.first_kept(from, present),
+            Retention::Window(window) => window.first_kept(from, present),
+            Retention::Halving(halving) => halving.first_kept(from, present),
+        }
+    }
+}
