@@ -35,5 +35,4 @@ pub trait Policy {
 /// of a stretch of moments, and none only where no moment of the stretch is kept.
 pub fn first_kept_is_least()
     ensures { λ _. ⌜ First-kept-is-least ⌝ }
-{
-}
+{}

@@ -4,15 +4,15 @@ ghost use Rattle.policies.specs.Retentions.{keptBy};
 use crate::all::All;
 use crate::all::AllPolicy;
 use crate::halving::Halving;
+use crate::halving::HalvingDebug;
+use crate::halving::HalvingPartialEq;
 use crate::halving::HalvingPolicy;
 use crate::policy::Policy;
 use crate::window::Window;
-use crate::window::WindowPolicy;
-use values::moment::Moment;
-use crate::halving::HalvingDebug;
-use crate::halving::HalvingPartialEq;
 use crate::window::WindowDebug;
 use crate::window::WindowPartialEq;
+use crate::window::WindowPolicy;
+use values::moment::Moment;
 
 /// A policy of any kind.
 #[derive(Clone, Copy, PartialEq, Eq, Debug)]

@@ -1,4 +1,7 @@
 pub mod Answers
 pub mod Blocks
+pub mod ByteOrder
 pub mod Moments
+pub mod NameRule
+pub mod Packing
 pub mod Refusals

@@ -43,6 +43,8 @@ impl Moment {
         if self.value == LAST {
             return None;
         }
-        Some(Moment { value: self.value + 1 })
+        Some(Moment {
+            value: self.value + 1,
+        })
     }
 }

@@ -1,0 +1,4 @@
+pub mod NameKeys
+pub mod Offsets
+pub mod Order
+pub mod Sees

@@ -1,0 +1,5 @@
+pub mod Answers
+pub mod BigEndian
+pub mod ByteOrders
+pub mod NameBytes
+pub mod Names
