@@ -2,12 +2,13 @@
 use mathlib.Core.Bool.{Bool, true, false, _&&_}
 use mathlib.Core.List.{List, [], _∷_, _++_}
 use mathlib.Core.Path.{_≡_, refl, sym, ap, ap₂, _∙_}
-use Prim.Native.Nat.{ℕ, zero, suc, _-_, _≤_, _<_}
+use Prim.Native.Nat.{ℕ, zero, suc, _-_, _≤_}
 use native.Mathlib.Omega.{arith}
 use lib.Dec.{eqb}
-use lib.ListN.{length, getD, drop, take}
-use Rattle.std.proofs.shelf.Lists.{length-take-le, take-append-le, take-all}
-use Rattle.std.proofs.shelf.Tests.{and-parts, and-from, and-left, eqb-true, eq-eqb}
+use lib.ListN.{length, drop, take}
+use Rattle.std.proofs.shelf.Lists.{length-take-le}
+use Rattle.std.proofs.shelf.Tests.{and-parts, and-from, and-left, cond-false, eqb-true, eq-eqb, ne-eqb}
+use Rattle.values.specs.Bytes.{placeOf}
 use Rattle.values.specs.NameRule.{isName}
 use Rattle.values.specs.Packing.{highOf, lowOf, beforeZero, pairBytes, spelled, isPacked}
 use Rattle.values.proofs.BigEndian.{Bytes, bytes-drop, padded, padded-split, bytes-of-big-endian}
@@ -25,8 +26,10 @@ before-zero-none (suc k) = refl
 before-zero-padded : (k : ℕ) (bs : List ℕ) → length bs ≤ k → Nonzero bs → beforeZero (padded k bs) ≡ bs
 before-zero-padded k [] h m = before-zero-none k
 before-zero-padded zero (b ∷ bs) h m = absurd (omega arith)
-before-zero-padded (suc k) (zero ∷ bs) h m = absurd (omega arith)
-before-zero-padded (suc k) (suc b ∷ bs) h m = ap (λ (xs : List ℕ). suc b ∷ xs) (before-zero-padded k bs (omega arith) (m .2))
+before-zero-padded (suc k) (b ∷ bs) h m =
+    let nonzero : eqb b 0 ≡ false = ne-eqb b 0 (λ e. omega (arith, m .0)) in
+    ap (λ (n : ℕ). take n (b ∷ padded k bs)) (cond-false (eqb b 0) 0 (suc (placeOf 0 (padded k bs))) nonzero)
+    ∙ ap (λ (xs : List ℕ). b ∷ xs) (before-zero-padded k bs (omega arith) (m .2))
 
 pub spelled-of-name : (bs : List ℕ) → isName bs ≡ true → spelled (highOf bs) (lowOf bs) ≡ bs
 unfolding spelled pairBytes
@@ -58,42 +61,17 @@ packed-parts high low e =
     let q = and-parts (eqb (highOf (spelled high low)) high) (eqb (lowOf (spelled high low)) low) (p .1) in
     (p .0, eqb-true _ _ (q .0), eqb-true _ _ (q .1))
 
--- The bytes before the first zero, where the zero was found at n or there is none.
-pub before-zero-stop : (n : ℕ) (bs : List ℕ) → n ≤ length bs → ((k : ℕ) → k < n → getD bs k 0 ≡ 0 → ⊥) → (n < length bs → getD bs n 0 ≡ 0) → beforeZero bs ≡ take n bs
-before-zero-stop zero [] h f s = refl
-before-zero-stop zero (zero ∷ bs) h f s = refl
-before-zero-stop zero (suc b ∷ bs) h f s = absurd (omega (arith, s (omega arith)))
-before-zero-stop (suc n) [] h f s = absurd (omega arith)
-before-zero-stop (suc n) (zero ∷ bs) h f s = absurd (f 0 (omega arith) refl)
-before-zero-stop (suc n) (suc b ∷ bs) h f s = ap (λ (xs : List ℕ). suc b ∷ xs) (before-zero-stop n bs (omega arith) (λ k q. f (suc k) (omega arith)) (λ q. s (omega arith)))
-
-pub before-zero-length : (n : ℕ) (bs : List ℕ) → n ≤ length bs → ((k : ℕ) → k < n → getD bs k 0 ≡ 0 → ⊥) → (n < length bs → getD bs n 0 ≡ 0) → n ≡ length (beforeZero bs)
-before-zero-length n bs h f s = sym (ap length (before-zero-stop n bs h f s) ∙ length-take-le n bs h)
-
-pub before-zero-is-front : (bs : List ℕ) → beforeZero bs ≡ take (length (beforeZero bs)) bs
-before-zero-is-front [] = refl
-before-zero-is-front (zero ∷ bs) = refl
-before-zero-is-front (suc b ∷ bs) = ap (λ (xs : List ℕ). suc b ∷ xs) (before-zero-is-front bs)
-
-pub before-zero-shorter : (bs : List ℕ) → length (beforeZero bs) ≤ length bs
-before-zero-shorter [] = omega arith
-before-zero-shorter (zero ∷ bs) = omega arith
-before-zero-shorter (suc b ∷ bs) = omega (arith, before-zero-shorter bs)
-
-pub pair-bytes-length : (high low : ℕ) → length (pairBytes high low) ≡ 16
-unfolding pairBytes
-pair-bytes-length high low = refl
-
--- The front of the sixteen bytes, as long as the name, is the name.
-pub spelled-front : (n high low : ℕ) (bs : List ℕ) → bs ≡ pairBytes high low → n ≡ length (beforeZero bs) → take (n - 0) bs ≡ spelled high low
+-- The front of the sixteen bytes, up to the first zero, is the name.
+pub spelled-front : (n high low : ℕ) (bs : List ℕ) → bs ≡ pairBytes high low → n ≡ placeOf 0 bs → take (n - 0) bs ≡ spelled high low
 unfolding spelled
 spelled-front n high low bs e f =
-    let z : n - 0 ≡ length (beforeZero bs) = omega arith in
-    ap (λ (k : ℕ). take k bs) z ∙ sym (before-zero-is-front bs) ∙ ap beforeZero e
+    let z : n - 0 ≡ placeOf 0 bs = omega arith in
+    ap (λ (k : ℕ). take k bs) z ∙ ap beforeZero e
 
-pub spelled-length : (n high low : ℕ) (bs : List ℕ) → bs ≡ pairBytes high low → n ≡ length (beforeZero bs) → n ≡ length (spelled high low)
-unfolding spelled
-spelled-length n high low bs e f = f ∙ ap (λ (xs : List ℕ). length (beforeZero xs)) e
+pub spelled-length : (n high low : ℕ) (bs : List ℕ) → bs ≡ pairBytes high low → n ≡ placeOf 0 bs → n ≤ length bs → n ≡ length (spelled high low)
+spelled-length n high low bs e f h =
+    let z : n - 0 ≡ n = omega arith in
+    sym (length-take-le n bs h) ∙ ap (λ (k : ℕ). length (take k bs)) (sym z) ∙ ap length (spelled-front n high low bs e f)
 
 -- The test of a pair, made on the bytes that it spells: they are no name, or they are and the test goes on.
 pub unpacked-if-no-name : (bs : List ℕ) (high low : ℕ) → bs ≡ spelled high low → false ≡ isName bs → false ≡ isPacked high low

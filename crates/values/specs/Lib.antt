@@ -1,6 +1,7 @@
 pub mod Answers
 pub mod Blocks
 pub mod ByteOrder
+pub mod Bytes
 pub mod Moments
 pub mod NameRule
 pub mod Packing

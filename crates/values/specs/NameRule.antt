@@ -1,9 +1,10 @@
 -- The rule of names, as a test of a name's bytes.
-use mathlib.Core.Bool.{Bool, true, not, _&&_}
-use mathlib.Core.List.{List, [], _∷_}
+use mathlib.Core.Bool.{Bool, not, _&&_}
+use mathlib.Core.List.{List}
 use Prim.Native.Nat.{ℕ}
 use lib.Dec.{eqb, leb}
 use lib.ListN.{length}
+use Rattle.values.specs.Bytes.{every}
 
 -- The most bytes that a name has.
 abbrev pub maxNameLength : ℕ
@@ -13,9 +14,5 @@ maxNameLength = 16
 abbrev pub isNameByte : ℕ → Bool
 isNameByte b = leb 0x21 b && (leb b 0x7E && not (eqb b 0x2F))
 
-abbrev pub areNameBytes : List ℕ → Bool
-areNameBytes [] = true
-areNameBytes (b ∷ bs) = isNameByte b && areNameBytes bs
-
 abbrev pub isName : List ℕ → Bool
-isName bs = leb 1 (length bs) && (leb (length bs) maxNameLength && areNameBytes bs)
+isName bs = leb 1 (length bs) && (leb (length bs) maxNameLength && every isNameByte bs)

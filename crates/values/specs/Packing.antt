@@ -3,9 +3,10 @@ use mathlib.Core.Bool.{Bool, not, _&&_}
 use mathlib.Core.List.{List, [], _∷_, _++_}
 use Prim.Native.Nat.{ℕ, zero, suc, _+_, _*_, _/_, _%_, _^_}
 use lib.Dec.{eqb, ltb}
-use lib.ListN.{drop, length}
+use lib.ListN.{drop, length, take}
 use Rattle.std.specs.declared.result.Result.{Result}
 use Rattle.values.specs.Answers.{unlessRefused}
+use Rattle.values.specs.Bytes.{placeOf}
 use Rattle.values.specs.NameRule.{isName, maxNameLength}
 
 -- The first `width` bytes as one number, the first most significant, with zeros for missing ones.
@@ -30,15 +31,9 @@ bytesOf (suc width) n = (n / 256 ^ width % 256) ∷ bytesOf width n
 unfoldable pub pairBytes : (high low : ℕ) → List ℕ
 pairBytes high low = bytesOf 8 high ++ bytesOf 8 low
 
--- A byte and what follows it, unless the byte is 0.
-abbrev pub unlessZero : ℕ → List ℕ → List ℕ
-unlessZero zero bs = []
-unlessZero (suc b) bs = suc b ∷ bs
-
 -- The bytes before the first zero.
 abbrev pub beforeZero : List ℕ → List ℕ
-beforeZero [] = []
-beforeZero (b ∷ bs) = unlessZero b (beforeZero bs)
+beforeZero bs = take (placeOf 0 bs) bs
 
 -- The bytes of the name that two numbers pack.
 unfoldable pub spelled : (high low : ℕ) → List ℕ

@@ -8,10 +8,10 @@ ghost use Rattle.values.specs.ByteOrder.{byteOrder};
 ghost use Rattle.values.specs.NameRule.{isName};
 ghost use Rattle.values.specs.Packing.{spelled, isPacked, packing, repacking, unpacking, overFront};
 ghost use Rattle.std.specs.Vec.{made};
+use crate::bytes::place_of;
 use crate::name_rule::MAX_NAME_LENGTH;
 use crate::name_rule::is_name;
 use crate::packing::is_packed;
-use crate::packing::length_before_zero;
 use crate::packing::pack_back;
 use crate::packing::pack_front;
 use crate::packing::pair_bytes;
@@ -73,7 +73,7 @@ impl Name {
             return Err(Refusal::BufferTooShort);
         }
         let bytes = pair_bytes(self.high, self.low);
-        let length = length_before_zero(&bytes);
+        let length = place_of(0, &bytes);
         let front = &mut buffer[0..length];
         front.copy_from_slice(&bytes[0..length]);
         Ok(length)

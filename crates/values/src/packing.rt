@@ -1,10 +1,10 @@
 //! Names as two numbers.
 ghost use mathlib.Core.Bool.{_&&_};
 ghost use mathlib.Core.Path.{_≡_};
-ghost use Prim.Native.Nat.{_≤_};
 ghost use lib.Dec.{eqb};
-ghost use lib.ListN.{length, getD};
-ghost use Rattle.values.specs.Packing.{bigEndian, highOf, lowOf, pairBytes, beforeZero, isPacked};
+ghost use lib.ListN.{getD};
+ghost use Rattle.values.specs.Packing.{bigEndian, highOf, lowOf, pairBytes, isPacked};
+use crate::bytes::place_of;
 use crate::name_rule::is_name;
 
 // The byte at a place, or 0 behind the end.
@@ -47,19 +47,6 @@ pub fn pair_bytes(high: u64, low: u64) -> [u8; 16]
     bytes
 }
 
-// How many bytes stand before the first zero.
-pub fn length_before_zero(bytes: &[u8]) -> usize
-    ensures value { λ r. ⌜ r ≡ length (beforeZero (now (bytes .entry))) ⌝ }
-    ensures within { λ r. ⌜ r ≤ length (now (bytes .entry)) ⌝ }
-{
-    for (place, byte) in bytes.iter().enumerate() {
-        if *byte == 0 {
-            return place;
-        }
-    }
-    bytes.len()
-}
-
 // Whether bytes pack to two numbers.
 fn packs_to(bytes: &[u8], high: u64, low: u64) -> bool
     ensures { λ r. ⌜ r ≡ (eqb (highOf (now (bytes .entry))) high && eqb (lowOf (now (bytes .entry))) low) ⌝ }
@@ -74,7 +61,7 @@ pub fn is_packed(high: u64, low: u64) -> bool
     ensures { λ r. ⌜ r ≡ isPacked high low ⌝ }
 {
     let bytes = pair_bytes(high, low);
-    let length = length_before_zero(&bytes);
+    let length = place_of(0, &bytes);
     let name = &bytes[0..length];
     if !is_name(name) {
         return false;

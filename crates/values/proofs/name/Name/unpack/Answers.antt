@@ -10,13 +10,13 @@ use Rattle.values.proofs.name.Name.unpack.Needs as need
 
 pub returns : need.returns
 returns c =
-    let n : c .length-before-zero-length .result ≡ length (spelled (c .args .self .high) (c .args .self .low)) =
-    spelled-length _ _ _ _ (c .pair-bytes-bytes .ensures) (c .length-before-zero-length .ensures .value) in
-    let z : c .length-before-zero-length .result - 0 ≡ length (spelled (c .args .self .high) (c .args .self .low)) = omega arith in
+    let n : c .place-of-length .result ≡ length (spelled (c .args .self .high) (c .args .self .low)) =
+    spelled-length _ _ _ _ (c .pair-bytes-bytes .ensures) (c .place-of-length .ensures .place) (c .place-of-length .ensures .within) in
+    let z : c .place-of-length .result - 0 ≡ length (spelled (c .args .self .high) (c .args .self .low)) = omega arith in
     record {
       answers = grind (arith, tells);
       writes = ap₂ (λ (xs : List ℕ) (k : ℕ). xs ++ drop k (c .args .buffer .now))
           (c .copy-from-slice .ensures .after
-          ∙ spelled-front _ _ _ _ (c .pair-bytes-bytes .ensures) (c .length-before-zero-length .ensures .value))
+          ∙ spelled-front _ _ _ _ (c .pair-bytes-bytes .ensures) (c .place-of-length .ensures .place))
           z;
     }

@@ -1,0 +1,2 @@
+-- The command that a line is.
+use Prim.Native.Nat.{ℕ}
