@@ -1,12 +1,12 @@
 -- The number that a word writes.
-use mathlib.Core.Bool.{cond, _||_, not}
+use mathlib.Core.Bool.{cond}
 use mathlib.Core.List.{List}
 use Prim.Native.Nat.{ℕ}
 use lib.Dec.{ltb}
 use Rattle.std.specs.declared.result.Result.{Result}
 use Rattle.std.specs.declared.result.Result.the-variants.{Ok, Err}
 use Rattle.std.specs.Reads.{value}
-use Rattle.console.specs.Words.{isEmpty, areDigits}
+use Rattle.console.specs.Words.{isNumeral}
 use Rattle.console.specs.declared.fault.Fault.{Fault}
 use Rattle.console.specs.declared.fault.Fault.the-variants.{NotANumber, NumberTooLarge}
 
@@ -16,5 +16,4 @@ largestNumber = 4294967295
 
 unfoldable pub numberIn : List ℕ → Result ℕ Fault
 numberIn word =
-    cond (isEmpty word || not (areDigits word)) (Err NotANumber)
-    (cond (ltb largestNumber (value 10 word)) (Err NumberTooLarge) (Ok (value 10 word)))
+    cond (isNumeral word) (cond (ltb largestNumber (value 10 word)) (Err NumberTooLarge) (Ok (value 10 word))) (Err NotANumber)

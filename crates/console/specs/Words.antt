@@ -1,19 +1,14 @@
 -- The words of a line: they are separated by one or more spaces.
-use mathlib.Core.Bool.{Bool, true, false, cond, _&&_}
-use mathlib.Core.List.{List, [], _∷_}
+use mathlib.Core.Bool.{Bool, not, _&&_}
+use mathlib.Core.List.{List}
 use Prim.Native.Nat.{ℕ, zero, suc}
 use lib.Dec.{eqb, leb}
-use lib.ListN.{take, drop}
-
--- The place of the first such byte, or the length where there is none.
-abbrev pub placeOf : (byte : ℕ) → List ℕ → ℕ
-placeOf byte [] = 0
-placeOf byte (b ∷ bs) = cond (eqb b byte) 0 (suc (placeOf byte bs))
+use lib.ListN.{length, take, drop}
+use Rattle.values.specs.Bytes.{every, placeOf, placeWhere}
 
 -- How many spaces the bytes begin with.
 abbrev pub spacesBefore : List ℕ → ℕ
-spacesBefore [] = 0
-spacesBefore (b ∷ bs) = cond (eqb b 32) (suc (spacesBefore bs)) 0
+spacesBefore = placeWhere (λ b. not (eqb b 32))
 
 abbrev pub afterSpaces : List ℕ → List ℕ
 afterSpaces line = drop (spacesBefore line) line
@@ -31,10 +26,19 @@ abbrev pub wordAt : ℕ → (line : List ℕ) → List ℕ
 wordAt zero line = firstWord line
 wordAt (suc n) line = wordAt n (afterWord line)
 
-abbrev pub isEmpty : List ℕ → Bool
-isEmpty [] = true
-isEmpty (b ∷ bs) = false
+-- What stands before the first such byte, and what stands behind it.
+unfoldable pub beforeByte : (byte : ℕ) → List ℕ → List ℕ
+beforeByte byte text = take (placeOf byte text) text
 
-abbrev pub areDigits : List ℕ → Bool
-areDigits [] = true
-areDigits (b ∷ bs) = (leb 48 b && leb b 57) && areDigits bs
+unfoldable pub behindByte : (byte : ℕ) → List ℕ → List ℕ
+behindByte byte text = drop (suc (placeOf byte text)) text
+
+abbrev pub isEmpty : List ℕ → Bool
+isEmpty bs = eqb (length bs) 0
+
+abbrev pub isDigit : ℕ → Bool
+isDigit b = leb 48 b && leb b 57
+
+-- One or more decimal digits.
+abbrev pub isNumeral : List ℕ → Bool
+isNumeral word = leb 1 (length word) && every isDigit word

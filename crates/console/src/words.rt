@@ -1,11 +1,14 @@
 //! The words and numbers of a line.
 ghost use mathlib.Core.Path.{_≡_};
-ghost use Prim.Native.Nat.{_≤_};
-ghost use lib.ListN.{length, take, drop};
+ghost use mathlib.Core.Bool.{true};
+ghost use Prim.Native.Nat.{_≤_, min};
+ghost use lib.ListN.{length};
+ghost use Rattle.std.specs.Reads.{value};
 ghost use Rattle.std.specs.shelf.Text.{sameBytes};
-ghost use Rattle.console.specs.Words.{placeOf, spacesBefore, firstWord, afterWord, areDigits};
+ghost use Rattle.console.specs.Words.{spacesBefore, firstWord, afterWord, beforeByte, behindByte, isDigit, isNumeral};
 ghost use Rattle.console.specs.Numbers.{numberIn};
 use crate::fault::Fault;
+use values::bytes::place_of;
 
 /// Whether a word is this text.
 pub fn is_word(word: &[u8], text: &str) -> bool
@@ -14,22 +17,9 @@ pub fn is_word(word: &[u8], text: &str) -> bool
     word == text.as_bytes()
 }
 
-/// The place of the first such byte, or the length where there is none.
-pub fn place_of(byte: u8, bytes: &[u8]) -> usize
-    ensures place { λ r. ⌜ r ≡ placeOf byte (now (bytes .entry)) ⌝ }
-    ensures within { λ r. ⌜ r ≤ length (now (bytes .entry)) ⌝ }
-{
-    for (place, other) in bytes.iter().enumerate() {
-        if *other == byte {
-            return place;
-        }
-    }
-    bytes.len()
-}
-
 // How many spaces the bytes begin with.
 fn spaces_before(bytes: &[u8]) -> usize
-    ensures count { λ r. ⌜ r ≡ spacesBefore (now (bytes .entry)) ⌝ }
+    ensures place { λ r. ⌜ r ≡ spacesBefore (now (bytes .entry)) ⌝ }
     ensures within { λ r. ⌜ r ≤ length (now (bytes .entry)) ⌝ }
 {
     for (place, byte) in bytes.iter().enumerate() {
@@ -50,12 +40,32 @@ pub fn split_word(line: &[u8]) -> (&[u8], &[u8])
     (&text[0..end], &text[end..])
 }
 
-// Whether every byte is a decimal digit.
-fn are_digits(word: &[u8]) -> bool
-    ensures { λ r. ⌜ r ≡ areDigits (now (word .entry)) ⌝ }
+/// What stands before the first such byte, and what stands behind it.
+pub fn split_at(byte: u8, text: &[u8]) -> (&[u8], &[u8])
+    ensures before { λ r. ⌜ now (r .0) ≡ beforeByte byte (now (text .entry)) ⌝ }
+    ensures behind { λ r. ⌜ now (r .1) ≡ behindByte byte (now (text .entry)) ⌝ }
 {
+    let place = place_of(byte, text);
+    let behind = text.len().min(place + 1);
+    (&text[0..place], &text[behind..])
+}
+
+// Whether a byte is a decimal digit.
+fn is_digit(byte: u8) -> bool
+    ensures { λ r. ⌜ r ≡ isDigit byte ⌝ }
+{
+    byte >= b'0' && byte <= b'9'
+}
+
+// Whether the word is one or more decimal digits.
+fn is_numeral(word: &[u8]) -> bool
+    ensures { λ r. ⌜ r ≡ isNumeral (now (word .entry)) ⌝ }
+{
+    if word.is_empty() {
+        return false;
+    }
     for byte in word {
-        if *byte < b'0' || *byte > b'9' {
+        if !is_digit(*byte) {
             return false;
         }
     }
@@ -65,17 +75,26 @@ fn are_digits(word: &[u8]) -> bool
 // Stands for every number above the largest that a command takes.
 const TOO_LARGE: u64 = 4_294_967_296;
 
+// The number that digits write, or `TOO_LARGE` where it is larger.
+fn capped_value(digits: &[u8]) -> u64
+    requires { ⌜ isNumeral (now digits) ≡ true ⌝ }
+    ensures { λ r. ⌜ r ≡ min (value 10 (now (digits .entry))) 4294967296 ⌝ }
+{
+    let mut number: u64 = 0;
+    for digit in digits {
+        number = (number * 10 + u64::from(*digit - b'0')).min(TOO_LARGE);
+    }
+    number
+}
+
 /// The number that a word writes in decimal digits.
 pub fn number(word: &[u8]) -> Result<u32, Fault>
     ensures { λ r. ⌜ r ≡ numberIn (now (word .entry)) ⌝ }
 {
-    if word.is_empty() || !are_digits(word) {
+    if !is_numeral(word) {
         return Err(Fault::NotANumber);
     }
-    let mut number: u64 = 0;
-    for digit in word {
-        number = (number * 10 + u64::from(*digit - b'0')).min(TOO_LARGE);
-    }
+    let number = capped_value(word);
     if number == TOO_LARGE {
         return Err(Fault::NumberTooLarge);
     }

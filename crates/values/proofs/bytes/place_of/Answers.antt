@@ -11,12 +11,12 @@ loop-place-again c = below-more _ _ (c .loop-place .inv) (ne-eqb _ _ (c .if-othe
 
 pub returns-then-other-byte : need.returns-then-other-byte
 returns-then-other-byte c = record {
-    place = place-is (λ b. eqb b (c .args .byte)) _ _ (omega arith) (c .loop-place .inv) (λ h. eq-eqb _ _ (c .if-other-byte .taken));
-    within = omega arith
-  }
+  place = place-is (λ b. eqb b (c .args .byte)) _ _ (omega arith) (c .loop-place .inv) (λ h. eq-eqb _ _ (c .if-other-byte .taken));
+  within = omega arith;
+}
 
 pub returns : need.returns
 returns c = record {
-    place = place-is (λ b. eqb b (c .args .byte)) (length (c .args .bytes .now)) (c .args .bytes .now) (omega arith) (λ k h. c .loop-place .inv k (omega arith)) (λ h. absurd (omega arith));
-    within = omega arith
-  }
+  place = place-is (λ b. eqb b (c .args .byte)) (length (c .args .bytes .now)) (c .args .bytes .now) (omega arith) (λ k h. c .loop-place .inv k (omega arith)) (λ h. absurd (omega arith));
+  within = omega arith;
+}
