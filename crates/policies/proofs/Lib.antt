@@ -1,0 +1,4 @@
+pub mod Candidates
+pub mod LeastKept
+pub mod MadeMoments
+pub mod TrailingZeros

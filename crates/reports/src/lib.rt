@@ -1,0 +1,4 @@
+//! What a policy keeps, worked out for people.
+pub mod count;
+pub mod reason;
+pub mod stretch;
