@@ -1,4 +1,1 @@
-pub mod Commands
-pub mod Numbers
-pub mod Verbs
-pub mod Words
+pub mod Replies

@@ -1,4 +1,4 @@
-//! The command language: a line's bytes in, an answer out.
-pub mod command;
-pub mod fault;
-pub mod words;
+//! What the program answers to a line.
+pub mod answer;
+mod help;
+pub mod session;

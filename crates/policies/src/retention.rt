@@ -12,6 +12,7 @@ use crate::window::Window;
 use crate::window::WindowDebug;
 use crate::window::WindowPartialEq;
 use crate::window::WindowPolicy;
+use std::fmt;
 use values::moment::Moment;
 
 /// A policy of any kind.
@@ -38,6 +39,17 @@ pub impl Policy for Retention as RetentionPolicy {
             Retention::All => All.first_kept(from, present),
             Retention::Window(window) => window.first_kept(from, present),
             Retention::Halving(halving) => halving.first_kept(from, present),
+        }
+    }
+}
+
+/// Shows the policy and its setting, as `halving:2`.
+pub impl fmt::Display for Retention as RetentionDisplay {
+    fn fmt<W: fmt::Write>(&self, f: &mut fmt::Formatter<W>) -> fmt::Result {
+        match *self {
+            Retention::All => f.write_str("all"),
+            Retention::Window(window) => write!(f, "window:{}", window.length()),
+            Retention::Halving(halving) => write!(f, "halving:{}", halving.reach()),
         }
     }
 }

@@ -1,3 +1,4 @@
 pub mod Counts
 pub mod Grounds
 pub mod Marks
+pub mod Stretches

@@ -3,8 +3,8 @@ use mathlib.Core.Bool.{Bool, cond}
 use Prim.Native.Nat.{ℕ, _+_, _-_}
 use lib.Dec.{eqb}
 use Rattle.reports.specs.Counts.{countKept}
-use Rattle.reports.specs.declared.stretch.Mark.{Mark}
-use Rattle.reports.specs.declared.stretch.Mark.the-variants.{AllKept, SomeKept, NoneKept}
+use Rattle.reports.specs.declared.mark.Mark.{Mark}
+use Rattle.reports.specs.declared.mark.Mark.the-variants.{AllKept, SomeKept, NoneKept}
 
 -- By how many of a number of moments are kept.
 abbrev pub markOf : (kept moments : ℕ) → Mark

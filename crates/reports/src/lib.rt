@@ -1,4 +1,5 @@
 //! What a policy keeps, worked out for people.
-pub mod count;
+pub mod mark;
+pub mod picture;
 pub mod reason;
 pub mod stretch;

@@ -86,7 +86,11 @@ impl Reason {
         ensures present { λ r. ⌜ r .present .value ≡ present .value ⌝ }
         ensures grounds { λ r. ⌜ r .grounds ≡ groundsOf retention (t .value) (present .value) ⌝ }
     {
-        Reason { moment: t, present, grounds: Grounds::new(retention, t, present) }
+        Reason {
+            moment: t,
+            present,
+            grounds: Grounds::new(retention, t, present),
+        }
     }
 }
 
@@ -102,10 +106,16 @@ pub impl fmt::Display for Reason as ReasonDisplay {
             Grounds::KeepsAll => write!(f, "{t} is {verdict}: every moment up to now is"),
             Grounds::KeepsZero => write!(f, "{t} is {verdict}: halving always keeps moment 0"),
             Grounds::WithinWindow(age, length) => {
-                write!(f, "{t} is {verdict}: {present} - {t} = {age} is {stands} {length}")
+                write!(
+                    f,
+                    "{t} is {verdict}: {present} - {t} = {age} is {stands} {length}"
+                )
             }
             Grounds::WithinReach(age, reach, zeros, limit) => {
-                write!(f, "{t} is {verdict}: {present} - {t} = {age} is {stands} {reach} x 2^{zeros} = {limit}")
+                write!(
+                    f,
+                    "{t} is {verdict}: {present} - {t} = {age} is {stands} {reach} x 2^{zeros} = {limit}"
+                )
             }
         }
     }

@@ -1,9 +1,0 @@
-use Rattle.console.proofs.Splits.{before-place, behind-place}
-use Rattle.console.proofs.words.split_at.Needs as need
-
-pub returns : need.returns
-returns c =
-    record {
-      before = before-place _ _ _ (c .place-of-place .ensures .place);
-      behind = behind-place _ _ _ _ (c .place-of-place .ensures .place) (c .place-of-place .ensures .within) (c .min-behind .ensures);
-    }
