@@ -13,6 +13,8 @@ const TIMELINE_COLUMNS: u32 = 64;
 
 const ROW_COLUMNS: u32 = 32;
 
+const TABLE_HEAD: &str = "      aged               are kept         # kept  + some kept  . given up\n";
+
 // Ages up to the last moment stand in rows 0 to 20.
 const ROWS: u32 = 21;
 
@@ -65,13 +67,13 @@ impl Picture {
 
     fn write_timeline<W: fmt::Write>(&self, f: &mut fmt::Formatter<W>) -> fmt::Result {
         let all = Stretch::up_to(self.present);
-        write!(f, "0 ")?;
+        write!(f, "  0 ")?;
         self.write_marks(all, TIMELINE_COLUMNS, f)?;
         let present = self.present.number();
         writeln!(f, " {present}")?;
         let width = all.column_width(TIMELINE_COLUMNS);
         if width > 1 {
-            writeln!(f, "  (a mark for every {width} moments)")?;
+            writeln!(f, "    (a mark for every {width} moments)")?;
         }
         Ok(())
     }
@@ -83,10 +85,12 @@ impl Picture {
         let oldest = present.saturating_sub(stretch.first());
         let kept = stretch.kept(&self.retention, self.present);
         let moments = stretch.moments();
-        write!(
-            f,
-            "{youngest:>7} to {oldest:>7} {kept:>8} of {moments:>7}  "
-        )?;
+        if youngest == oldest {
+            write!(f, "  {youngest:>7}           ")?;
+        } else {
+            write!(f, "  {youngest:>7} to {oldest:>7}")?;
+        }
+        write!(f, " {kept:>8} of {moments:>7}  ")?;
         self.write_marks(stretch, ROW_COLUMNS, f)?;
         writeln!(f, "")
     }
@@ -96,10 +100,7 @@ pub impl fmt::Display for Picture as PictureDisplay {
     fn fmt<W: fmt::Write>(&self, f: &mut fmt::Formatter<W>) -> fmt::Result {
         self.write_summary(f)?;
         self.write_timeline(f)?;
-        writeln!(
-            f,
-            "            age          kept          # kept  + some kept  . given up"
-        )?;
+        f.write_str(TABLE_HEAD)?;
         for row in 0..ROWS {
             let Some(stretch) = Stretch::ages(row, self.present) else {
                 return Ok(());
