@@ -13,7 +13,8 @@ const TIMELINE_COLUMNS: u32 = 64;
 
 const ROW_COLUMNS: u32 = 32;
 
-const TABLE_HEAD: &str = "      aged               are kept         # kept  + some kept  . given up\n";
+const TABLE_HEAD: &str =
+    "      aged               are kept         # kept  + some kept  . given up\n";
 
 // Ages up to the last moment stand in rows 0 to 20.
 const ROWS: u32 = 21;
