@@ -6,7 +6,7 @@ use borrow.Author.Needs.{needs}
 use Rattle.std.specs.declared.cmp.Ordering.{Ordering}
 use Rattle.std.specs.declared.cmp.Ordering.the-variants.{Less, Equal, Greater}
 use Rattle.std.specs.Orderings.{thenBy, reversed}
-use Rattle.values.specs.ByteOrder.{numberOrder}
+use Rattle.names.specs.ByteOrder.{numberOrder}
 use Rattle.keys.specs.Order.{OrderLaws, byParts}
 
 pub number-order-lawful : OrderLaws numberOrder

@@ -4,8 +4,8 @@ use mathlib.Core.Path.{_≡_}
 use Prim.Native.Nat.{ℕ}
 use Rattle.std.specs.declared.cmp.Ordering.{Ordering}
 use Rattle.std.specs.Orderings.{thenBy}
-use Rattle.values.specs.ByteOrder.{numberOrder, byteOrder}
-use Rattle.values.specs.Packing.{isPacked, spelled}
+use Rattle.names.specs.ByteOrder.{numberOrder, byteOrder}
+use Rattle.names.specs.Packing.{isPacked, spelled}
 use Rattle.keys.specs.Order.{byParts}
 use Rattle.keys.specs.declared.name_key.NameKey.{NameKey}
 

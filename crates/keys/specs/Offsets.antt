@@ -1,6 +1,6 @@
 -- The order of offsets.
 use Rattle.std.specs.declared.cmp.Ordering.{Ordering}
-use Rattle.values.specs.ByteOrder.{numberOrder}
+use Rattle.names.specs.ByteOrder.{numberOrder}
 use Rattle.keys.specs.Order.{byParts}
 use Rattle.keys.specs.declared.offset.Offset.{Offset}
 

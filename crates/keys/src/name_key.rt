@@ -1,12 +1,12 @@
 //! Name keys: the places of names.
 ghost use mathlib.Core.Path.{_≡_};
 ghost use Rattle.values.specs.Answers.{answer};
-ghost use Rattle.values.specs.Packing.{repacking};
+ghost use Rattle.names.specs.Packing.{repacking};
 ghost use Rattle.keys.specs.NameKeys.{nameKeyOrder, Names-in-byte-order};
 use crate::key::Key;
 use crate::order::Ordered;
 use std::cmp::Ordering;
-use values::name::Name;
+use names::name::Name;
 use values::object::Object;
 use values::refusal::Refusal;
 

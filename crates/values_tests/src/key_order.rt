@@ -7,7 +7,7 @@ use keys::order::Ordered;
 use keys::version::Version;
 use std::cmp::Ordering;
 use std::test::*;
-use values::name::Name;
+use names::name::Name;
 
 // The key of a name, or a key of no name.
 fn key(directory: u16, bytes: &[u8]) -> NameKey {

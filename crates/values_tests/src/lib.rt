@@ -2,6 +2,6 @@
 #[cfg(test)]
 mod key_order;
 #[cfg(test)]
-mod names;
+mod name_values;
 #[cfg(test)]
 mod numbers;

@@ -7,9 +7,9 @@ use lib.Chars.{codes}
 use Rattle.std.specs.declared.cmp.Ordering.the-variants.{Less}
 use Rattle.std.specs.declared.option.Option.the-variants.{Some, None}
 use Rattle.std.specs.declared.result.Result.the-variants.{Ok}
-use Rattle.values.specs.ByteOrder.{byteOrder}
-use Rattle.values.specs.NameRule.{isName}
-use Rattle.values.specs.Packing.{packing}
+use Rattle.names.specs.ByteOrder.{byteOrder}
+use Rattle.names.specs.NameRule.{isName}
+use Rattle.names.specs.Packing.{packing}
 use Rattle.keys.specs.Sees.{sees}
 use Rattle.policies.specs.FirstKept.{firstKept}
 use Rattle.policies.specs.Kept.{keptByWindow, keptByHalving}

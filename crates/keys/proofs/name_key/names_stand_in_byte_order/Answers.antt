@@ -1,7 +1,7 @@
 use mathlib.Core.Path.{_≡_, sym, ap}
 use Rattle.std.specs.Orderings.{thenBy}
-use Rattle.values.specs.ByteOrder.{numberOrder}
-use Rattle.values.proofs.ByteOrders.{packed-order}
+use Rattle.names.specs.ByteOrder.{numberOrder}
+use Rattle.names.proofs.ByteOrders.{packed-order}
 use Rattle.keys.proofs.name_key.names_stand_in_byte_order.Needs as need
 
 pub returns : need.returns

@@ -1,6 +1,6 @@
 use mathlib.Core.Path.{_≡_, ap, _∙_}
 use Prim.Native.Nat.{ℕ}
-use Rattle.values.specs.ByteOrder.{numberOrder}
+use Rattle.names.specs.ByteOrder.{numberOrder}
 use Rattle.keys.specs.NameKeys.{packedOrder}
 use Rattle.keys.specs.declared.name_key.NameKey.{NameKey}
 use Rattle.keys.proofs.PartsOrder.{parts-order-lawful, number-order-lawful}

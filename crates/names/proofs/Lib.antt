@@ -1,0 +1,4 @@
+pub mod BigEndian
+pub mod ByteOrders
+pub mod NameBytes
+pub mod Names
