@@ -5,8 +5,8 @@ ghost use Rattle.names.specs.Packing.{repacking};
 ghost use Rattle.keys.specs.NameKeys.{nameKeyOrder, Names-in-byte-order};
 use crate::key::Key;
 use crate::order::Ordered;
-use std::cmp::Ordering;
 use names::name::Name;
+use std::cmp::Ordering;
 use values::object::Object;
 use values::refusal::Refusal;
 

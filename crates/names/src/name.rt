@@ -8,15 +8,15 @@ ghost use Rattle.names.specs.ByteOrder.{byteOrder};
 ghost use Rattle.names.specs.NameRule.{isName};
 ghost use Rattle.names.specs.Packing.{spelled, isPacked, packing, repacking, unpacking, overFront};
 ghost use Rattle.std.specs.Vec.{made};
-use values::bytes::place_of;
 use crate::name_rule::MAX_NAME_LENGTH;
 use crate::name_rule::is_name;
 use crate::packing::is_packed;
 use crate::packing::pack_back;
 use crate::packing::pack_front;
 use crate::packing::pair_bytes;
-use values::refusal::Refusal;
 use std::cmp::Ordering;
+use values::bytes::place_of;
+use values::refusal::Refusal;
 
 /// A name of 1 to 16 bytes, packed into two numbers.
 #[derive(Clone, Copy, PartialEq, Eq, Debug)]

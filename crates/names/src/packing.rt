@@ -4,8 +4,8 @@ ghost use mathlib.Core.Path.{_≡_};
 ghost use lib.Dec.{eqb};
 ghost use lib.ListN.{getD};
 ghost use Rattle.names.specs.Packing.{bigEndian, highOf, lowOf, pairBytes, isPacked};
-use values::bytes::place_of;
 use crate::name_rule::is_name;
+use values::bytes::place_of;
 
 // The byte at a place, or 0 behind the end.
 fn byte_or_zero(bytes: &[u8], place: usize) -> u8

@@ -1,4 +1,5 @@
 pub mod Candidates
+pub mod GivenUp
 pub mod LeastKept
 pub mod MadeMoments
 pub mod TrailingZeros

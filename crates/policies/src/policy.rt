@@ -5,6 +5,7 @@ ghost use Prim.Native.Nat.{ℕ, suc, _≤_, _<_};
 ghost use lib.Dec.{leb};
 ghost use Rattle.std.specs.Options.{isSome, mapped};
 ghost use Rattle.policies.specs.FirstKept.{firstKept, First-kept-is-least};
+ghost use Rattle.policies.specs.Kept.{Given-up-for-good};
 use values::moment::Moment;
 
 /// Decides which moments are kept.
@@ -35,4 +36,9 @@ pub trait Policy {
 /// of a stretch of moments, and none only where no moment of the stretch is kept.
 pub fn first_kept_is_least()
     ensures { λ _. ⌜ First-kept-is-least ⌝ }
+{}
+
+/// States that a moment that a policy has given up stays given up, however far the present moves on.
+pub fn given_up_for_good<P: Policy>(policy: &P)
+    ensures { λ _. ⌜ Given-up-for-good (P·Policy .kept (now (policy .entry))) ⌝ }
 {}

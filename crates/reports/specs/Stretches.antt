@@ -1,7 +1,8 @@
 -- The parts of a stretch of moments, each by its first and last.
-use mathlib.Core.Bool.{cond}
-use Prim.Native.Nat.{ℕ, zero, suc, _+_, _-_, _*_, _/_, _%_, _^_, min, max}
-use lib.Dec.{ltb}
+use mathlib.Core.Bool.{Bool, false, cond, _&&_}
+use mathlib.Core.Path.{_≡_}
+use Prim.Native.Nat.{ℕ, zero, suc, _+_, _-_, _*_, _/_, _%_, _^_, _≤_, _<_, min, max}
+use lib.Dec.{eqb, leb, ltb}
 use Rattle.std.specs.declared.option.Option.{Option}
 use Rattle.std.specs.declared.option.Option.the-variants.{Some, None}
 
@@ -25,3 +26,18 @@ agedFrom youngest m = cond (ltb m youngest) None (Some (m - (2 * youngest - 1), 
 abbrev pub agesOf : (row m : ℕ) → Option (ℕ × ℕ)
 agesOf zero m = Some (m, m)
 agesOf (suc row) m = agedFrom (2 ^ row) m
+
+-- Whether a part holds the moment `t`.
+abbrev pub holds : Option (ℕ × ℕ) → (t : ℕ) → Bool
+holds None t = false
+holds (Some part) t = leb (part .0) t && leb t (part .1)
+
+-- Every moment of a stretch stands in one of its columns, and in no other.
+abbrev pub Columns-hold-each-once : Type 0
+Columns-hold-each-once =
+    (columns first last t : ℕ) → 0 < columns → first ≤ t → t ≤ last
+    → (i : ℕ) × (i < columns) × ((j : ℕ) → holds (columnOf j columns first last) t ≡ eqb j i)
+
+-- Every moment up to the present stands in one of the 21 rows of a table of ages, and in no other.
+abbrev pub Rows-hold-each-once : Type 0
+Rows-hold-each-once = (m t : ℕ) → m ≤ 1048575 → t ≤ m → (i : ℕ) × (i < 21) × ((j : ℕ) → holds (agesOf j m) t ≡ eqb j i)

@@ -4,7 +4,7 @@ ghost use Prim.Native.Nat.{_+_, _-_, _≤_};
 ghost use Rattle.std.specs.Options.{mapped};
 ghost use Rattle.reports.specs.Counts.{countKept, oneIf};
 ghost use Rattle.reports.specs.Marks.{markOf, stretchMark};
-ghost use Rattle.reports.specs.Stretches.{columnWidth, columnOf, agesOf};
+ghost use Rattle.reports.specs.Stretches.{columnWidth, columnOf, agesOf, Columns-hold-each-once, Rows-hold-each-once};
 use crate::mark::Mark;
 use policies::policy::Policy;
 use values::moment::Moment;
@@ -126,3 +126,10 @@ impl Stretch {
         Mark::new(self.kept(policy, present), self.moments())
     }
 }
+
+/// States that a picture leaves no moment out and shows none twice: each stands in exactly one
+/// column, and in exactly one row of the table of ages.
+pub fn pictures_show_each_moment_once()
+    ensures columns { λ _. ⌜ Columns-hold-each-once ⌝ }
+    ensures rows { λ _. ⌜ Rows-hold-each-once ⌝ }
+{}

@@ -5,9 +5,9 @@ use keys::offset::Offset;
 use keys::offset::OffsetOrdered;
 use keys::order::Ordered;
 use keys::version::Version;
+use names::name::Name;
 use std::cmp::Ordering;
 use std::test::*;
-use names::name::Name;
 
 // The key of a name, or a key of no name.
 fn key(directory: u16, bytes: &[u8]) -> NameKey {

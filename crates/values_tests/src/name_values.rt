@@ -1,7 +1,7 @@
 //! Names: which bytes make one, how it is packed and unpacked, and the order of names.
+use names::name::Name;
 use std::cmp::Ordering;
 use std::test::*;
-use names::name::Name;
 
 // The number of the refusal, or 0 for a name.
 fn refusal(bytes: &[u8]) -> u8 {
