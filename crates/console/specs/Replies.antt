@@ -1,6 +1,7 @@
 -- What the program replies to a command, in the state that the command finds.
 use mathlib.Core.Bool.{Bool, cond, _||_}
-use mathlib.Core.List.{List, [], _∷_}
+use mathlib.Core.List.{[], _∷_}
+use mathlib.Core.Path.{_≡_}
 use Prim.Native.Nat.{ℕ}
 use lib.Dec.{ltb}
 use Rattle.std.specs.declared.option.Option.{Option}
@@ -17,6 +18,7 @@ use Rattle.policies.specs.declared.retention.Retention.{Retention}
 use Rattle.policies.specs.declared.retention.Retention.the-variants as retention
 use Rattle.reports.specs.Grounds.{groundsOf}
 use Rattle.reports.specs.declared.reason.Grounds.{Grounds}
+use Rattle.console.specs.declared.session.Session.{Session}
 use Rattle.console.specs.declared.answer.Answer.{Answer}
 use Rattle.console.specs.declared.answer.Answer.the-variants as answer
 use Rattle.commands.specs.declared.command.Command.{Command}
@@ -131,7 +133,7 @@ momentAfter m (Kept at) = m
 momentAfter m (Why t at) = m
 momentAfter m Help = m
 
--- The same for a line, which is a command or is answered by what is wrong with it and alters nothing.
+-- The same for a line, which is a command, or is answered by what is wrong with it and alters nothing.
 abbrev pub lineReply : Retention → (m : ℕ) → Result Command Fault → Reply
 lineReply r m (Ok c) = replyTo r m c
 lineReply r m (Err f) = wrong f
@@ -143,6 +145,12 @@ lineSetting old (Err f) = old
 abbrev pub lineMoment : (m : ℕ) → Result Command Fault → ℕ
 lineMoment m (Ok c) = momentAfter m c
 lineMoment m (Err f) = m
+
+-- That a session answered a line, read as a command or a fault, by a reply.
+pub record Answered (before after : Session) (line : Result Command Fault) (reply : Reply) : Type 0 where
+  pub replies : reply ≡ lineReply (before .retention) (before .present .value) line
+  pub setting : settingOf (after .retention) ≡ lineSetting (settingOf (before .retention)) line
+  pub moment : after .present .value ≡ lineMoment (before .present .value) line
 
 -- The reply of a call that may be turned down.
 abbrev pub resultReply : Result Answer Refusal → Reply

@@ -2,11 +2,12 @@
 ghost use mathlib.Core.Bool.{Bool};
 ghost use mathlib.Core.Path.{_≡_};
 ghost use Rattle.std.specs.Orderings.{Decides};
+ghost use Rattle.std.specs.declared.result.Result.the-variants.{Ok};
 ghost use Rattle.std.specs.Text.{Utf8};
 ghost use Rattle.values.specs.Answers.{answer};
 ghost use Rattle.values.specs.Moments.{momentAt};
 ghost use Rattle.commands.specs.Commands.{commandIn};
-ghost use Rattle.console.specs.Replies.{replyOf, resultReply, madeSetting, settingOf, settingMade, momentMade, nowOr, keepsReply, firstKeptReply, keptReply, whyReply, newReply, replyTo, settingAfter, momentAfter, lineReply, lineSetting, lineMoment};
+ghost use Rattle.console.specs.Replies.{Answered, replyOf, resultReply, madeSetting, settingOf, settingMade, momentMade, nowOr, keepsReply, firstKeptReply, keptReply, whyReply, newReply};
 use crate::answer::Answer;
 use commands::command::Command;
 use commands::setting::Setting;
@@ -112,9 +113,7 @@ impl Session {
     }
 
     fn perform(&mut self, command: Command) -> Result<Answer, Refusal>
-        ensures reply { λ r. ⌜ resultReply r ≡ replyTo (now (self .entry) .retention) (now (self .entry) .present .value) command ⌝ }
-        ensures setting { λ r. ⌜ settingOf (now (self .exit) .retention) ≡ settingAfter (settingOf (now (self .entry) .retention)) command ⌝ }
-        ensures present { λ r. ⌜ now (self .exit) .present .value ≡ momentAfter (now (self .entry) .present .value) command ⌝ }
+        ensures { λ r. ⌜ Answered (now (self .entry)) (now (self .exit)) (Ok command) (resultReply r) ⌝ }
     {
         match command {
             Command::Nothing => Ok(Answer::Silence),
@@ -129,9 +128,7 @@ impl Session {
 
     /// Carries a command out.
     pub fn run(&mut self, command: Command) -> Answer
-        ensures reply { λ r. ⌜ replyOf r ≡ replyTo (now (self .entry) .retention) (now (self .entry) .present .value) command ⌝ }
-        ensures setting { λ r. ⌜ settingOf (now (self .exit) .retention) ≡ settingAfter (settingOf (now (self .entry) .retention)) command ⌝ }
-        ensures present { λ r. ⌜ now (self .exit) .present .value ≡ momentAfter (now (self .entry) .present .value) command ⌝ }
+        ensures { λ r. ⌜ Answered (now (self .entry)) (now (self .exit)) (Ok command) (replyOf r) ⌝ }
     {
         match self.perform(command) {
             Ok(answer) => answer,
@@ -139,11 +136,9 @@ impl Session {
         }
     }
 
-    /// Answers a line. `text` in the contract is whether the line's bytes are UTF-8.
+    /// Answers a line. In the contract `text` is whether the line's bytes are UTF-8.
     pub fn execute(&mut self, line: &[u8]) -> Answer
-        ensures reply { λ r. ⌜ ((text : Bool) → Decides text (Utf8 (now (line .entry))) → replyOf r ≡ lineReply (now (self .entry) .retention) (now (self .entry) .present .value) (commandIn text (now (line .entry)))) ⌝ }
-        ensures setting { λ r. ⌜ ((text : Bool) → Decides text (Utf8 (now (line .entry))) → settingOf (now (self .exit) .retention) ≡ lineSetting (settingOf (now (self .entry) .retention)) (commandIn text (now (line .entry)))) ⌝ }
-        ensures present { λ r. ⌜ ((text : Bool) → Decides text (Utf8 (now (line .entry))) → now (self .exit) .present .value ≡ lineMoment (now (self .entry) .present .value) (commandIn text (now (line .entry)))) ⌝ }
+        ensures { λ r. ⌜ ((text : Bool) → Decides text (Utf8 (now (line .entry))) → Answered (now (self .entry)) (now (self .exit)) (commandIn text (now (line .entry))) (replyOf r)) ⌝ }
     {
         match Command::read(line) {
             Ok(command) => self.run(command),

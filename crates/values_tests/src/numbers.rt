@@ -61,7 +61,11 @@ fn blocks() -> Result<(), Fail> {
 fn shows(heap: Global, refusal: Refusal, number: u8) -> Result<bool, AllocError> {
     let text = refusal.to_string(heap)?;
     let front = format!(heap, "{number} ")?;
-    Ok(refusal.number() == number && text.as_str().starts_with(front.as_str()) && text.len() > front.len())
+    Ok(
+        refusal.number() == number
+            && text.as_str().starts_with(front.as_str())
+            && text.len() > front.len(),
+    )
 }
 
 #[test]
