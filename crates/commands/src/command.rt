@@ -26,10 +26,10 @@ const LONGEST_LINE: usize = 4096;
 pub enum Command {
     Nothing,
     New(Setting),
-    Keeps(u32, Option<u32>),
-    FirstKept(u32, Option<u32>),
-    Kept(Option<u32>),
-    Why(u32, Option<u32>),
+    Keeps { moment: u32, at: Option<u32> },
+    FirstKept { moment: u32, at: Option<u32> },
+    Kept { at: Option<u32> },
+    Why { moment: u32, at: Option<u32> },
     Help,
 }
 
@@ -81,16 +81,19 @@ fn with_arguments(verb: Verb, arguments: &[u8]) -> Result<Command, Fault>
         Verb::Level => Ok(Command::New(level_setting(arguments)?)),
         Verb::Keeps => {
             let (moment, at) = moment_and_now(arguments)?;
-            Ok(Command::Keeps(moment, at))
+            Ok(Command::Keeps { moment, at })
         }
         Verb::FirstKept => {
             let (moment, at) = moment_and_now(arguments)?;
-            Ok(Command::FirstKept(moment, at))
+            Ok(Command::FirstKept { moment, at })
         }
-        Verb::Kept => Ok(Command::Kept(only_now(arguments)?)),
+        Verb::Kept => {
+            let at = only_now(arguments)?;
+            Ok(Command::Kept { at })
+        }
         Verb::Why => {
             let (moment, at) = moment_and_now(arguments)?;
-            Ok(Command::Why(moment, at))
+            Ok(Command::Why { moment, at })
         }
         Verb::Help => nothing_more(arguments, Command::Help),
     }

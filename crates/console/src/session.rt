@@ -118,10 +118,10 @@ impl Session {
         match command {
             Command::Nothing => Ok(Answer::Silence),
             Command::New(setting) => self.renew(setting),
-            Command::Keeps(moment, at) => self.keeps(moment, at),
-            Command::FirstKept(moment, at) => self.first_kept(moment, at),
-            Command::Kept(at) => self.kept(at),
-            Command::Why(moment, at) => self.why(moment, at),
+            Command::Keeps { moment, at } => self.keeps(moment, at),
+            Command::FirstKept { moment, at } => self.first_kept(moment, at),
+            Command::Kept { at } => self.kept(at),
+            Command::Why { moment, at } => self.why(moment, at),
             Command::Help => Ok(Answer::Help),
         }
     }

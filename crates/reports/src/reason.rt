@@ -17,11 +17,19 @@ pub enum Grounds {
     KeepsAll,
     /// Moment 0 is always kept.
     KeepsZero,
-    /// A window keeps ages up to its length: age, length.
-    WithinWindow(u32, u32),
-    /// Halving keeps ages up to a limit, its reach doubled for each zero bit at the moment's
-    /// low end: age, reach, zero bits, limit.
-    WithinReach(u32, u32, u32, u32),
+    /// A window keeps ages up to its length.
+    WithinWindow {
+        age: u32,
+        length: u32,
+    },
+    /// Halving keeps ages up to a limit: its reach, doubled for each zero bit at the low end
+    /// of the moment's number.
+    WithinReach {
+        age: u32,
+        reach: u32,
+        zeros: u32,
+        limit: u32,
+    },
 }
 
 impl Grounds {
@@ -37,7 +45,10 @@ impl Grounds {
         }
         match retention {
             Retention::All => Grounds::KeepsAll,
-            Retention::Window(window) => Grounds::WithinWindow(present - t, window.length()),
+            Retention::Window(window) => Grounds::WithinWindow {
+                age: present - t,
+                length: window.length(),
+            },
             Retention::Halving(halving) => reach_grounds(halving, t, present),
         }
     }
@@ -50,8 +61,8 @@ impl Grounds {
             Grounds::AfterNow => false,
             Grounds::KeepsAll => true,
             Grounds::KeepsZero => true,
-            Grounds::WithinWindow(age, length) => age <= length,
-            Grounds::WithinReach(age, _, _, limit) => age <= limit,
+            Grounds::WithinWindow { age, length } => age <= length,
+            Grounds::WithinReach { age, limit, .. } => age <= limit,
         }
     }
 }
@@ -67,7 +78,12 @@ fn reach_grounds(halving: Halving, t: u32, present: u32) -> Grounds
     }
     let zeros = t.trailing_zeros();
     let limit = halving.reach() << zeros;
-    Grounds::WithinReach(present - t, halving.reach(), zeros, limit)
+    Grounds::WithinReach {
+        age: present - t,
+        reach: halving.reach(),
+        zeros,
+        limit,
+    }
 }
 
 /// A sentence that says whether a moment is kept and why, as
@@ -105,13 +121,18 @@ pub impl fmt::Display for Reason as ReasonDisplay {
             Grounds::AfterNow => write!(f, "{t} is not kept: it comes after now, {present}"),
             Grounds::KeepsAll => write!(f, "{t} is {verdict}: every moment up to now is"),
             Grounds::KeepsZero => write!(f, "{t} is {verdict}: halving always keeps moment 0"),
-            Grounds::WithinWindow(age, length) => {
+            Grounds::WithinWindow { age, length } => {
                 write!(
                     f,
                     "{t} is {verdict}: {present} - {t} = {age} is {stands} {length}"
                 )
             }
-            Grounds::WithinReach(age, reach, zeros, limit) => {
+            Grounds::WithinReach {
+                age,
+                reach,
+                zeros,
+                limit,
+            } => {
                 write!(
                     f,
                     "{t} is {verdict}: {present} - {t} = {age} is {stands} {reach} x 2^{zeros} = {limit}"
