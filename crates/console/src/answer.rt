@@ -2,8 +2,8 @@
 use crate::help::HELP;
 use commands::fault::Fault;
 use commands::fault::FaultDisplay;
-use reports::picture::Picture;
-use reports::picture::PictureDisplay;
+use pictures::picture::Picture;
+use pictures::picture::PictureDisplay;
 use reports::reason::Reason;
 use reports::reason::ReasonDisplay;
 use std::fmt;

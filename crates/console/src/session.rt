@@ -11,12 +11,12 @@ ghost use Rattle.console.specs.Replies.{Answered, replyOf, resultReply, madeSe
 use crate::answer::Answer;
 use commands::command::Command;
 use commands::setting::Setting;
+use pictures::picture::Picture;
 use policies::halving::Halving;
 use policies::policy::Policy;
 use policies::retention::Retention;
 use policies::retention::RetentionPolicy;
 use policies::window::Window;
-use reports::picture::Picture;
 use reports::reason::Reason;
 use values::moment::Moment;
 use values::refusal::Refusal;

@@ -1,5 +1,4 @@
 //! What a policy keeps, worked out for people.
 pub mod mark;
-pub mod picture;
 pub mod reason;
 pub mod stretch;

@@ -1,6 +1,6 @@
 //! Stretches of moments, their parts, and how a picture marks them.
 ghost use mathlib.Core.Path.{_≡_};
-ghost use Prim.Native.Nat.{_+_, _-_, _≤_};
+ghost use Prim.Native.Nat.{_+_, _-_, _<_, _≤_};
 ghost use Rattle.std.specs.Options.{mapped};
 ghost use Rattle.reports.specs.Counts.{countKept, oneIf};
 ghost use Rattle.reports.specs.Marks.{markOf, stretchMark};
@@ -12,6 +12,7 @@ use values::moment::Moment;
 // 1 where the policy keeps the moment with this number, and 0 where it does not.
 fn one_if_kept<P: Policy>(policy: &P, number: u32, present: Moment) -> u32
     ensures value { λ r. ⌜ (number ≤ 1048575 → r ≡ oneIf (P·Policy .kept (now (policy .entry)) number (present .value))) ⌝ }
+    ensures beyond { λ r. ⌜ (1048575 < number → r ≡ 0) ⌝ }
     ensures within { λ r. ⌜ r ≤ 1 ⌝ }
 {
     match Moment::new(number) {
@@ -67,16 +68,18 @@ impl Stretch {
         })
     }
 
-    pub fn first(self) -> u32
-        ensures { λ r. ⌜ r ≡ self .first ⌝ }
+    /// The age of its last moment, 0 where that is above `present`.
+    pub fn youngest(self, present: Moment) -> u32
+        ensures { λ r. ⌜ r ≡ present .value - self .last ⌝ }
     {
-        self.first
+        present.number().saturating_sub(self.last)
     }
 
-    pub fn last(self) -> u32
-        ensures { λ r. ⌜ r ≡ self .last ⌝ }
+    /// The age of its first moment, 0 where that is above `present`.
+    pub fn oldest(self, present: Moment) -> u32
+        ensures { λ r. ⌜ r ≡ present .value - self .first ⌝ }
     {
-        self.last
+        present.number().saturating_sub(self.first)
     }
 
     /// How many moments the stretch has.
@@ -117,6 +120,13 @@ impl Stretch {
             count += one_if_kept(policy, number, present);
         }
         count
+    }
+
+    /// How many of its moments the policy does not keep at `present`.
+    pub fn given_up<P: Policy>(self, policy: &P, present: Moment) -> u32
+        ensures { λ r. ⌜ r ≡ self .last + 1 - self .first - countKept (λ t. P·Policy .kept (now (policy .entry)) t (present .value)) (self .first) (self .last) ⌝ }
+    {
+        self.moments().saturating_sub(self.kept(policy, present))
     }
 
     /// How a picture of what the policy keeps at `present` marks the stretch.

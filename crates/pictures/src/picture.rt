@@ -1,10 +1,10 @@
 //! A picture of what a policy keeps.
 ghost use mathlib.Core.Path.{_≡_};
-use crate::mark::MarkDisplay;
-use crate::stretch::Stretch;
 use policies::retention::Retention;
 use policies::retention::RetentionDisplay;
 use policies::retention::RetentionPolicy;
+use reports::mark::MarkDisplay;
+use reports::stretch::Stretch;
 use std::fmt;
 use values::moment::Moment;
 
@@ -40,7 +40,7 @@ impl Picture {
         let all = Stretch::up_to(self.present);
         let moments = all.moments();
         let kept = all.kept(&self.retention, self.present);
-        let given_up = moments.saturating_sub(kept);
+        let given_up = all.given_up(&self.retention, self.present);
         let present = self.present.number();
         let retention = self.retention;
         writeln!(
@@ -81,9 +81,8 @@ impl Picture {
 
     // A row of the table of ages.
     fn write_row<W: fmt::Write>(&self, stretch: Stretch, f: &mut fmt::Formatter<W>) -> fmt::Result {
-        let present = self.present.number();
-        let youngest = present.saturating_sub(stretch.last());
-        let oldest = present.saturating_sub(stretch.first());
+        let youngest = stretch.youngest(self.present);
+        let oldest = stretch.oldest(self.present);
         let kept = stretch.kept(&self.retention, self.present);
         let moments = stretch.moments();
         if youngest == oldest {

@@ -1,0 +1,2 @@
+//! Pictures of what a policy keeps.
+pub mod picture;
