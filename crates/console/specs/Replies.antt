@@ -1,6 +1,5 @@
 -- What the program replies to a command, in the state that the command finds.
 use mathlib.Core.Bool.{Bool, cond, _||_}
-use mathlib.Core.List.{[], _∷_}
 use mathlib.Core.Path.{_≡_}
 use Prim.Native.Nat.{ℕ}
 use lib.Dec.{ltb}
@@ -8,12 +7,12 @@ use Rattle.std.specs.declared.option.Option.{Option}
 use Rattle.std.specs.declared.option.Option.the-variants.{Some, None}
 use Rattle.std.specs.declared.result.Result.{Result}
 use Rattle.std.specs.declared.result.Result.the-variants.{Ok, Err}
-use Rattle.values.specs.Answers.{unlessRefused}
 use Rattle.values.specs.Moments.{lastMoment}
 use Rattle.values.specs.Refusals.{numberOf}
 use Rattle.values.specs.declared.refusal.Refusal.{Refusal}
 use Rattle.policies.specs.FirstKept.{firstKept}
 use Rattle.policies.specs.Retentions.{keptBy}
+use Rattle.policies.specs.Settings.{windowSetting, halvingSetting}
 use Rattle.policies.specs.declared.retention.Retention.{Retention}
 use Rattle.policies.specs.declared.retention.Retention.the-variants as retention
 use Rattle.reports.specs.Grounds.{groundsOf}
@@ -60,11 +59,16 @@ settingOf retention.All = All
 settingOf (retention.Window w) = Window (w .length)
 settingOf (retention.Halving h) = Halving (h .reach)
 
+-- A setting with a number that a policy takes or turns down.
+abbrev pub withLimit : (ℕ → Setting) → Result ℕ ℕ → Result Setting ℕ
+withLimit make (Ok n) = Ok (make n)
+withLimit make (Err e) = Err e
+
 -- A setting that a policy is asked to have.
 abbrev pub madeSetting : Setting → Result Setting ℕ
 madeSetting All = Ok All
-madeSetting (Window length) = unlessRefused ((ltb 1048575 length, 24) ∷ []) (Window length)
-madeSetting (Halving reach) = unlessRefused ((ltb 1024 reach, 24) ∷ []) (Halving reach)
+madeSetting (Window length) = withLimit Window (windowSetting length)
+madeSetting (Halving reach) = withLimit Halving (halvingSetting reach)
 
 -- The present moment that a command supposes, or the vault's own.
 abbrev pub nowOr : Option ℕ → ℕ → ℕ

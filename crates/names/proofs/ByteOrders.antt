@@ -31,19 +31,19 @@ leading-digit P x y p q hp hq = elim (cases-order x y) [
   ]
 ]
 
-big-endian-order : (k : ℕ) (xs ys : List ℕ) → length xs ≤ k → length ys ≤ k → Nonzero xs → Nonzero ys → byteOrder xs ys ≡ numberOrder (bigEndian k xs) (bigEndian k ys)
-big-endian-order zero [] [] h i m n = refl
-big-endian-order zero (x ∷ xs) ys h i m n = absurd (omega arith)
-big-endian-order zero [] (y ∷ ys) h i m n = absurd (omega arith)
-big-endian-order (suc k) [] [] h i m n = refl
-big-endian-order (suc k) (x ∷ xs) [] h i m n =
+order-of-big-endian : (k : ℕ) (xs ys : List ℕ) → length xs ≤ k → length ys ≤ k → Nonzero xs → Nonzero ys → byteOrder xs ys ≡ numberOrder (bigEndian k xs) (bigEndian k ys)
+order-of-big-endian zero [] [] h i m n = refl
+order-of-big-endian zero (x ∷ xs) ys h i m n = absurd (omega arith)
+order-of-big-endian zero [] (y ∷ ys) h i m n = absurd (omega arith)
+order-of-big-endian (suc k) [] [] h i m n = refl
+order-of-big-endian (suc k) (x ∷ xs) [] h i m n =
     let z : 1 * 256 ^ k ≤ x * 256 ^ k = mul-le-mul-right (256 ^ k) (omega (arith, m .0)) in
     let w = power-is-positive k in grind (arith, tells)
-big-endian-order (suc k) [] (y ∷ ys) h i m n =
+order-of-big-endian (suc k) [] (y ∷ ys) h i m n =
     let z : 1 * 256 ^ k ≤ y * 256 ^ k = mul-le-mul-right (256 ^ k) (omega (arith, n .0)) in
     let w = power-is-positive k in grind (arith, tells)
-big-endian-order (suc k) (x ∷ xs) (y ∷ ys) h i m n =
-    ap (λ (o : Ordering). thenBy (numberOrder x y) o) (big-endian-order k xs ys (omega arith) (omega arith) (m .2) (n .2))
+order-of-big-endian (suc k) (x ∷ xs) (y ∷ ys) h i m n =
+    ap (λ (o : Ordering). thenBy (numberOrder x y) o) (order-of-big-endian k xs ys (omega arith) (omega arith) (m .2) (n .2))
     ∙ sym (leading-digit (256 ^ k) x y (bigEndian k xs) (bigEndian k ys)
     (big-endian-bound k xs (nonzero-bytes xs (m .2))) (big-endian-bound k ys (nonzero-bytes ys (n .2))))
 
@@ -56,7 +56,7 @@ name-order xs ys r s =
     let n = name-is-nonzero ys s in
     let p = big-endian-bound 8 (drop 8 xs) (bytes-drop 8 xs (nonzero-bytes xs m)) in
     let q = big-endian-bound 8 (drop 8 ys) (bytes-drop 8 ys (nonzero-bytes ys n)) in
-    big-endian-order 16 xs ys (name-is-short xs r) (name-is-short ys s) m n
+    order-of-big-endian 16 xs ys (name-is-short xs r) (name-is-short ys s) m n
     ∙ ap₂ numberOrder (big-endian-split 8 8 xs) (big-endian-split 8 8 ys)
     ∙ leading-digit (256 ^ 8) (highOf xs) (highOf ys) (lowOf xs) (lowOf ys) p q
 
