@@ -1,5 +1,6 @@
 //! Settings and moments at their limits.
 use crate::examples::at;
+use crate::examples::first;
 use crate::examples::halving;
 use crate::examples::window;
 use policies::halving::Halving;
@@ -23,13 +24,6 @@ fn halving_refusal(reach: u32) -> u8 {
     match Halving::new(reach) {
         Ok(_) => 0,
         Err(refusal) => refusal.number(),
-    }
-}
-
-fn first(policy: Retention, from: u32, present: u32) -> Option<u32> {
-    match policy.first_kept(at(from), at(present)) {
-        Some(moment) => Some(moment.number()),
-        None => None,
     }
 }
 

@@ -33,6 +33,14 @@ pub fn at(number: u32) -> Moment {
     }
 }
 
+/// The number of the first kept moment from `from` on, by the policy's own search.
+pub fn first(policy: Retention, from: u32, present: u32) -> Option<u32> {
+    match policy.first_kept(at(from), at(present)) {
+        Some(moment) => Some(moment.number()),
+        None => None,
+    }
+}
+
 // The kept moments up to `present`, and one above it.
 fn kept(heap: Global, policy: Retention, present: u32) -> Result<Vec<u32>, AllocError> {
     let mut moments = Vec::new(heap);

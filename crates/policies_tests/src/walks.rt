@@ -1,5 +1,6 @@
 //! The fast search for the first kept moment, compared with a walk over the moments.
 use crate::examples::at;
+use crate::examples::first;
 use crate::examples::halving;
 use crate::examples::window;
 use policies::policy::Policy;
@@ -17,17 +18,10 @@ fn walked(policy: Retention, from: u32, present: u32) -> Option<u32> {
     None
 }
 
-fn found(policy: Retention, from: u32, present: u32) -> Option<u32> {
-    match policy.first_kept(at(from), at(present)) {
-        Some(moment) => Some(moment.number()),
-        None => None,
-    }
-}
-
 // Whether both searches agree from every moment up to one above `present`.
 fn agree(policy: Retention, present: u32) -> bool {
     for from in 0..present.saturating_add(2) {
-        if found(policy, from, present) != walked(policy, from, present) {
+        if first(policy, from, present) != walked(policy, from, present) {
             return false;
         }
     }
