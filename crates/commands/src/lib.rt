@@ -1,4 +1,6 @@
 //! Lines of text as commands.
+#![tactic(auto)]
+
 pub mod arguments;
 pub mod command;
 pub mod fault;

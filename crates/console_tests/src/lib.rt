@@ -1,4 +1,6 @@
 //! Tests of the command language: what each kind of line is answered.
+#![tactic(auto)]
+
 #[cfg(test)]
 mod answers;
 #[cfg(test)]

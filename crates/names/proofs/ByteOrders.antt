@@ -2,7 +2,7 @@
 use Rattle.std.proofs.Common.{◌≡◌, ℕ, zero, suc, ◌+◌, ◌*◌, ◌^◌, ◌<◌, ◌≤◌, true, cond, List, [], ◌∷◌, length, drop, Ordering, Less, Equal, Greater, sym, refl, ap, ◌∙◌, ap₂, inl, inr, mul-le-mul_right, add-mul, arith}
 use Rattle.std.proofs.lemmas.Bool.{cases_order}
 use Rattle.std.proofs.lemmas.Bool.Decides.{nat_tests}
-use Rattle.std.specs.Ordering.{ordering_then, MatchOrdering}
+use Rattle.std.specs.Ordering.{ordering_then}
 use Rattle.names.specs.ByteOrder.{number_order, byte_order}
 use Rattle.names.specs.NameRule.{is_name}
 use Rattle.values.specs.BigEndian.{big_endian}
@@ -59,7 +59,3 @@ packed_order_lem h l h' l' a b =
     name_order (spelled h l) (spelled h' l') p.0 q.0
     ∙ ap₂ (λ (x y : ℕ). pair_order x (low_of (spelled h l)) y (low_of (spelled h' l'))) p.1 q.1
     ∙ ap₂ (λ (x y : ℕ). pair_order h x h' y) p.2 q.2
-
--- What `cmp` answers of two numbers is their order.
-pub number_order_is : (o : Ordering) (a b : ℕ) → MatchOrdering o (a < b) (a ≡ b) (b < a) → o ≡ number_order a b
-number_order_is o a b h = grind (arith, nat_tests)

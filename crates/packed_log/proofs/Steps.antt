@@ -1,5 +1,5 @@
 -- What the calls of a log make of it.
-use Rattle.std.proofs.Common.{◌≡◌, ℕ, ◌+◌, ◌-◌, ◌*◌, ◌^◌, ◌<◌, ◌≤◌, min, true, List, [], ◌∷◌, ◌++◌, length, drop, replicate, is_some, Some, None, Ok, Err, Option, sym, refl, ap, ◌∙◌, subst, arith, length-drop, Bor}
+use Rattle.std.proofs.Common.{◌≡◌, ℕ, ◌+◌, ◌-◌, ◌*◌, ◌^◌, ◌<◌, ◌≤◌, min, true, List, [], ◌∷◌, ◌++◌, length, drop, replicate, is_some, Some, None, Ok, Err, Option, sym, refl, ap, ◌∙◌, subst, arith, length-drop, MutBor}
 use Rattle.std.proofs.lemmas.List.{length_push, length-replicate}
 use Rattle.std.proofs.lemmas.Bool.{cond-true, and_from, le-leb}
 use Rattle.values.specs.Bytes.{over}
@@ -23,8 +23,8 @@ pub record LaidOut (s : PackedLog) (lent : List ℕ) (c : Contents) : Type 0 whe
   pub laid : s.bytes.now ≡ packed (room lent) (contents_of s).held (drop (room lent) lent)
 
 -- A log in lent bytes.
-abbrev pub log_in : (lent : Bor (List ℕ)) (bytes : List ℕ) (held last used : ℕ) → PackedLog
-log_in lent bytes held last used = record { bytes = record { ref_ptr = lent.ref_ptr; ghost_name = lent.name; now = bytes }; held = held; last = last; used = used }
+abbrev pub log_in : (lent : MutBor (List ℕ)) (bytes : List ℕ) (held last used : ℕ) → PackedLog
+log_in lent bytes held last used = record { bytes = record { ref_ptr = lent.ref_ptr; ghost_name = lent.ghost_name; now = bytes }; held = held; last = last; used = used }
 
 room_within : (lent : List ℕ) → room lent ≤ length lent
 room_within lent = omega arith
@@ -65,7 +65,7 @@ laid_out s lent c l k b h i u =
     }
 
 -- A new log, or one that was cleared.
-pub log_emptied : (lent : Bor (List ℕ)) (bytes : List ℕ) (capacity : ℕ) → capacity ≡ capacity_of (length lent.now) → bytes ≡ zeroed 0 (capacity * 69) lent.now
+pub log_emptied : (lent : MutBor (List ℕ)) (bytes : List ℕ) (capacity : ℕ) → capacity ≡ capacity_of (length lent.now) → bytes ≡ zeroed 0 (capacity * 69) lent.now
     → LaidOut (log_in lent bytes 0 0 0) lent.now (emptied (capacity_of (length lent.now)))
 log_emptied lent bytes capacity k b =
     let before : List ℕ = lent.now in

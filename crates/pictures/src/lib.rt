@@ -1,2 +1,4 @@
 //! Pictures of what a policy keeps.
+#![tactic(auto)]
+
 pub mod picture;

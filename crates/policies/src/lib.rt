@@ -1,4 +1,6 @@
 //! Retention policies: which moments of a project's history are kept.
+#![tactic(auto)]
+
 pub mod all;
 pub mod halving;
 pub mod policy;

@@ -1,4 +1,6 @@
 //! Tests of the policies, on examples and at the edges.
+#![tactic(auto)]
+
 #[cfg(test)]
 mod edges;
 #[cfg(test)]

@@ -1,5 +1,7 @@
 //! Shows what a slot store and a packed log leave in their memory, call by call: the bytes in rows of
 //! 23, a third of a slot, without the rows that are all zero.
+#![tactic(auto)]
+
 mod row;
 
 use packed_log::log::PackedLog;

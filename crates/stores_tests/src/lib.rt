@@ -1,4 +1,6 @@
 //! Tests of the stores: scripts of calls with their answers, and the bytes that they leave.
+#![tactic(auto)]
+
 #[cfg(test)]
 mod both_stores;
 #[cfg(test)]

@@ -1,4 +1,6 @@
 //! Answers the commands on standard input, one to a line.
+#![tactic(auto)]
+
 use console::session::Session;
 use std::io;
 use std::io::{BufRead, BufReader, BufWriter, Write};

@@ -7,8 +7,8 @@ use Rattle.commands.specs.Words.{is_digit}
 use Rattle.commands.proofs.Decimals.{digit_bounds, read_next_digit}
 use Rattle.commands.proofs.words.capped_value.Goals as goal
 
-pub overflow-sub-digit : goal.overflow-sub-digit
-overflow-sub-digit c =
+pub overflow_sub-digit : goal.overflow_sub-digit
+overflow_sub-digit c =
     let every_digit : every is_digit c.args.digits.now ≡ true = (and_parts (leb 1 (length c.args.digits.now)) _ c.requires).1 in
     omega (arith, (digit_bounds (get_or c.args.digits.now c.loop-digit.digit-index 0) (every_at is_digit c.loop-digit.digit-index c.args.digits.now c.loop-digit-test.true every_digit)).0)
 

@@ -6,7 +6,7 @@ use Rattle.entry_layout.proofs.entry.write_entry.Goals as goal
 
 pub returns : goal.returns
 returns c =
-    entry_written c.args.at (length c.args.block.now) _ _ c.copy-from-slice.new.self c.copy-from-slice-2.new.self c.args.bytes.now
+    entry_written c.args.at (length c.args.block.now) _ _ c.copy_from_slice.new.self c.copy_from_slice-2.new.self c.args.bytes.now
     (entry c.args.number c.args.block.now)
-    (c.copy-from-slice.ensures.after ∙ c.to-be-bytes.ensures) (omega arith) refl c.copy-from-slice-2.ensures.after (omega arith) (omega arith)
-    ∙ sym (cond-true _ _ _ (and_from _ _ (le-leb _ _ c.if-length-gt-MAX-BLOCK-LENGTH.false) (le-leb _ _ (omega arith))))
+    (c.copy_from_slice.ensures.after ∙ c.to_be_bytes.ensures) (omega arith) refl c.copy_from_slice-2.ensures.after (omega arith) (omega arith)
+    ∙ sym (cond-true _ _ _ (and_from _ _ (le-leb _ _ c.if-length-gt-MAX_BLOCK_LENGTH.false) (le-leb _ _ (omega arith))))

@@ -8,8 +8,8 @@ use Rattle.names.proofs.packing.pair_bytes.Goals as goal
 pub returns : goal.returns
 unfolding pair_bytes
 returns c =
-    let front : c.copy-from-slice.new.self ≡ bytes_of 8 c.args.high =
-    c.copy-from-slice.ensures.after ∙ c.to-be-bytes.ensures ∙ sym (eight_bytes c.args.high) in
-    let back : c.copy-from-slice-2.new.self ≡ bytes_of 8 c.args.low =
-    c.copy-from-slice-2.ensures.after ∙ c.to-be-bytes-2.ensures ∙ sym (eight_bytes c.args.low) in
+    let front : c.copy_from_slice.new.self ≡ bytes_of 8 c.args.high =
+    c.copy_from_slice.ensures.after ∙ c.to_be_bytes.ensures ∙ sym (eight_bytes c.args.high) in
+    let back : c.copy_from_slice-2.new.self ≡ bytes_of 8 c.args.low =
+    c.copy_from_slice-2.ensures.after ∙ c.to_be_bytes-2.ensures ∙ sym (eight_bytes c.args.low) in
     ap₂ (λ (xs ys : List ℕ). put_mid 8 8 (xs ++ replicate 8 0) ys) front back

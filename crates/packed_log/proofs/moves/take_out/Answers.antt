@@ -4,6 +4,6 @@ use Rattle.packed_log.proofs.moves.take_out.Goals as goal
 
 pub returns : goal.returns
 returns c =
-    c.fill-zero.ensures
-    ∙ turned_and_zeroed c.args.at c.args.size c.args.end c.args.bytes.now c.rotate-left.new.self
-    c.if-at-end.false c.if-size-end.false c.if-end-bytes.false c.rotate-left.ensures.after
+    c.fill_zero.ensures
+    ∙ turned_and_zeroed c.args.at c.args.size c.args.end c.args.bytes.now c.rotate_left.new.self
+    c.if-at-end.false c.if-size-end.false c.if-end-bytes.false c.rotate_left.ensures.after

@@ -2,11 +2,11 @@ use Rattle.std.proofs.Common.{◌≡◌, sym, ◌∙◌, ap₂, arith}
 use Rattle.std.proofs.lemmas.Bool.Decides.{nat_tests}
 use Rattle.std.specs.Ordering.{ordering_then}
 use Rattle.names.specs.ByteOrder.{number_order}
-use Rattle.names.proofs.ByteOrders.{packed_order_lem, number_order_is}
+use Rattle.names.proofs.ByteOrders.{packed_order_lem}
 use Rattle.names.proofs.name.Name.compare.Goals as goal
 
 pub returns : goal.returns
 returns c =
     c.then.ensures
-    ∙ ap₂ ordering_then (number_order_is _ _ _ c.cmp.ensures) (number_order_is _ _ _ c.cmp-2.ensures)
+    ∙ ap₂ ordering_then c.cmp.ensures c.cmp-2.ensures
     ∙ sym (packed_order_lem _ _ _ _ c.args.self.now.packed c.args.other.now.packed)

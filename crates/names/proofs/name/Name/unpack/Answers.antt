@@ -6,13 +6,13 @@ use Rattle.names.proofs.name.Name.unpack.Goals as goal
 
 pub returns : goal.returns
 returns c =
-    let n : c.place-of-length.result ≡ length (spelled c.args.self.high c.args.self.low) =
-    spelled_length _ _ _ _ c.pair-bytes-bytes.ensures c.place-of-length.ensures.place c.place-of-length.ensures.within in
-    let z : c.place-of-length.result - 0 ≡ length (spelled c.args.self.high c.args.self.low) = omega arith in
+    let n : c.place_of-length.result ≡ length (spelled c.args.self.high c.args.self.low) =
+    spelled_length _ _ _ _ c.pair_bytes-bytes.ensures c.place_of-length.ensures.place c.place_of-length.ensures.within in
+    let z : c.place_of-length.result - 0 ≡ length (spelled c.args.self.high c.args.self.low) = omega arith in
     record {
       answers = grind (arith, nat_tests);
       writes = ap₂ (λ (xs : List ℕ) (k : ℕ). xs ++ drop k c.args.buffer.now)
-          (c.copy-from-slice.ensures.after
-          ∙ spelled_front _ _ _ _ c.pair-bytes-bytes.ensures c.place-of-length.ensures.place)
+          (c.copy_from_slice.ensures.after
+          ∙ spelled_front _ _ _ _ c.pair_bytes-bytes.ensures c.place_of-length.ensures.place)
           z;
     }

@@ -7,7 +7,7 @@ use Rattle.packed_log.proofs.log.PackedLog.new.Goals as goal
 pub returns : goal.returns
 returns c =
     let lent = c.args.bytes.now in
-    let done = log_emptied c.args.bytes c.fill-zero.new.bytes c.capacity-of-end.result c.capacity-of-end.ensures c.fill-zero.ensures in
+    let done = log_emptied c.args.bytes c.fill_zero.new.bytes c.capacity_of-end.result c.capacity_of-end.ensures c.fill_zero.ensures in
     record {
       contents = done.contents;
       sound = done.sound;

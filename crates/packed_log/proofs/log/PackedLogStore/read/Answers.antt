@@ -8,8 +8,8 @@ pub returns : goal.returns
 returns c s =
     record {
       answered =
-          c.read-entry.ensures.answered
-          ∙ ap (λ (place : Option ℕ). copying (block_at place c.args.self.now.bytes.now) c.args.buffer.now) c.place-of.ensures
+          c.read_entry.ensures.answered
+          ∙ ap (λ (place : Option ℕ). copying (block_at place c.args.self.now.bytes.now) c.args.buffer.now) c.place_of.ensures
           ∙ ap (λ (block : Option (List ℕ)). copying block c.args.buffer.now) (block_at_place c.args.self.now c.args.number s);
-      unaltered = c.read-entry.ensures.unaltered;
+      unaltered = c.read_entry.ensures.unaltered;
     }

@@ -7,4 +7,4 @@ pub returns : goal.returns
 returns c =
     let step = one_shl c.args.zeros 32 (omega arith) in
     let age = reach_is_whole c.args.self.reach c.args.zeros c.args.self.within c.requires.zeros in
-    c.next-multiple-of.ensures.value ∙ simp (c.max.ensures, c.saturating-sub-oldest.ensures, step, age)
+    c.next_multiple_of.ensures.value ∙ simp (c.max.ensures, c.saturating_sub-oldest.ensures, step, age)

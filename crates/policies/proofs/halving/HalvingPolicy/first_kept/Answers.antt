@@ -13,7 +13,7 @@ returns-then-number-eq0 c = record { least = sym (kept_is_first _ _ _ (omega ari
 
 pub loop-zeros-preserved : goal.loop-zeros-preserved
 loop-zeros-preserved c =
-    simp (c.min-first.ensures, c.first-multiple.ensures, c.number-in-loop-zeros.ensures, c.number-in-loop-zeros-2.ensures)
+    simp (c.min-first.ensures, c.first_multiple.ensures, c.number-in-loop-zeros.ensures, c.number-in-loop-zeros-2.ensures)
     (so_far_more _ c.loop-zeros.zeros _ _ c.loop-zeros.first (omega arith) (omega arith) c.loop-zeros.invariant)
 
 pub returns : goal.returns

@@ -4,8 +4,8 @@ use Rattle.reports.proofs.stretch.Stretch.kept.Goals as goal
 
 pub loop-number-preserved : goal.loop-number-preserved
 loop-number-preserved g c = (
-  count_next _ _ _ _ _ c.loop-number.auto.number c.loop-number.invariant.0 (c.one-if-kept-count.ensures.value (omega arith)),
-  omega (arith, c.loop-number.invariant.1, c.one-if-kept-count.ensures.within),
+  count_next _ _ _ _ _ c.loop-number.auto.number c.loop-number.invariant.0 (c.one_if_kept-count.ensures.value (omega arith)),
+  omega (arith, c.loop-number.invariant.1, c.one_if_kept-count.ensures.within),
 )
 
 pub returns : goal.returns

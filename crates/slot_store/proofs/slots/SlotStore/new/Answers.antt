@@ -9,7 +9,7 @@ use Rattle.slot_store.proofs.slots.SlotStore.new.Goals as goal
 pub returns : goal.returns
 returns c =
     let bytes = c.args.bytes.now in
-    let k = clear_step bytes c.fill-zero.new.bytes (c.fill-zero.ensures ∙ ap (λ (n : ℕ). zeroed 0 (n * 69) bytes) c.capacity-of-end.ensures) in
+    let k = clear_step bytes c.fill_zero.new.bytes (c.fill_zero.ensures ∙ ap (λ (n : ℕ). zeroed 0 (n * 69) bytes) c.capacity_of-end.ensures) in
     record {
       contents = k.contents;
       sound = record { laid = k.laid; counted = sym (ap (λ (d : Contents). length d.held) k.contents); lawful = subst Lawful (sym k.contents) (Lawful-emptied _ (omega arith)) };

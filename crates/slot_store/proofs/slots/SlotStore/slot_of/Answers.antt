@@ -11,7 +11,7 @@ returns c =
     let bytes = store.bytes.now in
     let number = c.args.number in
     let start : ℕ = likely_slot number store.last store.next (capacity_of (length bytes)) in
-    let e : c.slot-from.result ≡ going_round (holds (Some number)) start (slots_of bytes) =
-    c.slot-from.ensures.place
-    ∙ ap₂ (λ (s n : ℕ). going_round (holds (Some number)) s (slots_in n bytes)) c.likely-slot-start.ensures c.capacity-of.ensures in
-    record { place = e; finds = round_finds number start (slots_of bytes) c.slot-from.result e; within = search rules }
+    let e : c.slot_from.result ≡ going_round (holds (Some number)) start (slots_of bytes) =
+    c.slot_from.ensures.place
+    ∙ ap₂ (λ (s n : ℕ). going_round (holds (Some number)) s (slots_in n bytes)) c.likely_slot-start.ensures c.capacity_of.ensures in
+    record { place = e; finds = round_finds number start (slots_of bytes) c.slot_from.result e; within = search rules }

@@ -18,14 +18,14 @@ admitted_by_contents store number capacity block s e a =
     let k = s.counted in
     record { sized = a.sized; above = a.above; room = omega arith }
 
-pub returns-in-default : goal.returns-in-default
-returns-in-default c =
+pub returns-in_default : goal.returns-in_default
+returns-in_default c =
     let store = c.args.self.now in
-    let a = (admitted c.args.number c.args.block.now store.held store.last c.capacity.result _ _ c.in-ok-admit.ensures).0 in
+    let a = (admitted c.args.number c.args.block.now store.held store.last c.capacity.result _ _ c.in_ok-admit.ensures).0 in
     record {
       appends = λ s.
           absurd (room_has_a_slot store.bytes.now store.next (admitted_by_contents store c.args.number c.capacity.result c.args.block.now s c.capacity.ensures a).room
-          (sym c.in-default.ensures.place));
+          (sym c.in_default.ensures.place));
       sound = λ s. s;
       filled = λ s. tt;
       same = refl;
@@ -36,15 +36,15 @@ returns c =
     let store = c.args.self.now in
     let bytes = store.bytes.now in
     let e : Entry = entry c.args.number c.args.block.now in
-    let a = (admitted c.args.number c.args.block.now store.held store.last c.capacity.result _ _ c.in-ok-admit.ensures).0 in
+    let a = (admitted c.args.number c.args.block.now store.held store.last c.capacity.result _ _ c.in_ok-admit.ensures).0 in
     let narrow : c.args.number < 4294967296 = omega arith in
-    let step : Sound store → Appended bytes c.write-entry.new.bytes store.last c.in-Some.slot e =
-    λ s. append_step bytes c.write-entry.new.bytes store.last c.in-Some.slot store.next e s.laid s.lawful a.sized a.above narrow
-    (sym c.in-Some.ensures.place) c.write-entry.ensures in
+    let step : Sound store → Appended bytes c.write_entry.new.bytes store.last c.in-Some.slot e =
+    λ s. append_step bytes c.write_entry.new.bytes store.last c.in-Some.slot store.next e s.laid s.lawful a.sized a.above narrow
+    (sym c.in-Some.ensures.place) c.write_entry.ensures in
     record {
       appends = λ s. record {
         answered = append_accepted (contents_of store) _ c.args.number c.args.block.now store.held c.capacity.result
-            c.in-ok-admit.ensures s.counted c.capacity.ensures (step s).contents;
+            c.in_ok-admit.ensures s.counted c.capacity.ensures (step s).contents;
         unaltered = tt;
       };
       sound = λ s.
@@ -61,16 +61,16 @@ returns c =
       same = tt;
     }
 
-pub returns-in-err-admit : goal.returns-in-err-admit
-returns-in-err-admit c =
+pub returns-in_err-admit : goal.returns-in_err-admit
+returns-in_err-admit c =
     let store = c.args.self.now in
-    let e = c.in-err-admit.field-0.0 in
-    let p = err_from_is_err_and c.from-residual.result c.from-residual.ensures.1 in
-    let is : c.from-residual.result ≡ Err e = p.1 ∙ ap Err p.2 in
+    let e = c.in_err-admit.field-0.0 in
+    let p = err_from_is_err_and c.from_residual.result c.from_residual.ensures.1 in
+    let is : c.from_residual.result ≡ Err e = p.1 ∙ ap Err p.2 in
     record {
       appends = λ s.
-          append_refused (contents_of store) c.args.number c.args.block.now store.held c.capacity.result c.from-residual.result e is
-          c.in-err-admit.ensures s.counted c.capacity.ensures;
+          append_refused (contents_of store) c.args.number c.args.block.now store.held c.capacity.result c.from_residual.result e is
+          c.in_err-admit.ensures s.counted c.capacity.ensures;
       sound = λ s. s;
       filled = λ s. subst (λ (r : Result (Unit {0}) Refusal). IfOk r (λ _. Filled (entry c.args.number c.args.block.now) store store)) (sym is) tt;
       same = subst (λ (r : Result (Unit {0}) Refusal). IfErr r (λ _. store ≡ store)) (sym is) refl;

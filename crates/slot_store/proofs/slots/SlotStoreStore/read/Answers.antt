@@ -12,8 +12,8 @@ pub returns : goal.returns
 returns c = λ s.
     let bytes = c.args.self.now.bytes.now in
     let number = c.args.number in
-    let e : block_at c.match-slot-of.place bytes ≡ block_of number (ranked (slots_of bytes)) =
-    elim c.match-slot-of.branch [
+    let e : block_at c.match-slot_of.place bytes ≡ block_of number (ranked (slots_of bytes)) =
+    elim c.match-slot_of.branch [
       | in-Some w ↦
           let found = w.in-Some.ensures.finds in
           ap (λ (o : Option ℕ). block_at o bytes) w.place-is
@@ -21,6 +21,6 @@ returns c = λ s.
       | in-None w ↦ ap (λ (o : Option ℕ). block_at o bytes) w.place-is ∙ sym (no_block_found bytes number w.in-None.ensures.finds)
     ] in
     record {
-      answered = c.read-entry.ensures.answered ∙ ap (λ (o : Option (List ℕ)). copying o c.args.buffer.now) e;
-      unaltered = c.read-entry.ensures.unaltered;
+      answered = c.read_entry.ensures.answered ∙ ap (λ (o : Option (List ℕ)). copying o c.args.buffer.now) e;
+      unaltered = c.read_entry.ensures.unaltered;
     }
