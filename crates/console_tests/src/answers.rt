@@ -22,19 +22,47 @@ pub fn expect(
     Ok(())
 }
 
+/// The same, with a note on why it should.
+pub fn expect_since(
+    rt: &impl Abort,
+    heap: Global,
+    session: &mut Session,
+    line: &[u8],
+    text: &str,
+    note: &str,
+) -> Result<(), Fail> {
+    let answer = said(heap, session, line)?;
+    assert_eq!(rt; answer.as_str(), text, "{note}");
+    Ok(())
+}
+
 #[test]
 fn lines_that_are_passed_over(rt: HostRuntime) -> Result<(), Fail> {
     let mut session = Session::new();
     expect(&rt, rt.alloc(), &mut session, b"", "")?;
     expect(&rt, rt.alloc(), &mut session, b"   ", "")?;
     expect(&rt, rt.alloc(), &mut session, b"# a comment", "")?;
-    expect(&rt, rt.alloc(), &mut session, b"#\xff", "").note("a comment need not be text")
+    expect_since(
+        &rt,
+        rt.alloc(),
+        &mut session,
+        b"#\xff",
+        "",
+        "a comment need not be text",
+    )
 }
 
 #[test]
 fn levels_and_policies(rt: HostRuntime) -> Result<(), Fail> {
     let mut session = Session::new();
-    expect(&rt, rt.alloc(), &mut session, b"keeps 0", "yes\n").note("a new vault is at moment 0")?;
+    expect_since(
+        &rt,
+        rt.alloc(),
+        &mut session,
+        b"keeps 0",
+        "yes\n",
+        "a new vault is at moment 0",
+    )?;
     expect(&rt, rt.alloc(), &mut session, b"keeps 1", "no\n")?;
     expect(&rt, rt.alloc(), &mut session, b"level solo 3", "ready\n")?;
     expect(&rt, rt.alloc(), &mut session, b"keeps 2 5", "yes\n")?;
@@ -71,14 +99,14 @@ fn levels_and_policies(rt: HostRuntime) -> Result<(), Fail> {
         "moment 1048575\n",
     )?;
     expect(&rt, rt.alloc(), &mut session, b"new", "ready\n")?;
-    expect(
+    expect_since(
         &rt,
         rt.alloc(),
         &mut session,
         b"  keeps   7  1048575 ",
         "yes\n",
+        "any number of spaces",
     )
-    .note("any number of spaces")
 }
 
 #[test]

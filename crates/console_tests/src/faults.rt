@@ -1,5 +1,5 @@
 //! Lines that are no commands.
-use crate::answers::expect;
+use crate::answers::{expect, expect_since};
 use console::session::Session;
 use std::test::Fail;
 
@@ -27,9 +27,30 @@ const TOO_LONG: &str = "error: the line is longer than 4096 bytes\n";
 fn words(rt: HostRuntime) -> Result<(), Fail> {
     let mut session = Session::new();
     expect(&rt, rt.alloc(), &mut session, b"keep 1", UNKNOWN)?;
-    expect(&rt, rt.alloc(), &mut session, b"Keeps 1", UNKNOWN).note("commands are in lower case")?;
-    expect(&rt, rt.alloc(), &mut session, b"keeps\t1", UNKNOWN).note("a tab is no space")?;
-    expect(&rt, rt.alloc(), &mut session, b" # keeps", UNKNOWN).note("a comment begins the line")?;
+    expect_since(
+        &rt,
+        rt.alloc(),
+        &mut session,
+        b"Keeps 1",
+        UNKNOWN,
+        "commands are in lower case",
+    )?;
+    expect_since(
+        &rt,
+        rt.alloc(),
+        &mut session,
+        b"keeps\t1",
+        UNKNOWN,
+        "a tab is no space",
+    )?;
+    expect_since(
+        &rt,
+        rt.alloc(),
+        &mut session,
+        b" # keeps",
+        UNKNOWN,
+        "a comment begins the line",
+    )?;
     expect(&rt, rt.alloc(), &mut session, b"keeps", TOO_FEW)?;
     expect(&rt, rt.alloc(), &mut session, b"keeps 1 2 3", TOO_MANY)?;
     expect(&rt, rt.alloc(), &mut session, b"first-kept", TOO_FEW)?;

@@ -54,17 +54,26 @@ fn kept(heap: Global, policy: Retention, present: u32) -> Result<Vec<u32>, Alloc
 fn all_keeps_everything(rt: HostRuntime) -> Result<(), Fail> {
     assert_eq!(rt;
         kept(rt.alloc(), Retention::All, 3)?.as_slice(),
-        &[0, 1, 2, 3]
+        [0, 1, 2, 3].as_slice()
     );
-    assert_eq!(rt; kept(rt.alloc(), Retention::All, 0)?.as_slice(), &[0]);
+    assert_eq!(rt;
+        kept(rt.alloc(), Retention::All, 0)?.as_slice(),
+        [0].as_slice()
+    );
     Ok(())
 }
 
 #[test]
 fn a_window_keeps_the_newest(rt: HostRuntime) -> Result<(), Fail> {
-    assert_eq!(rt; kept(rt.alloc(), window(3), 5)?.as_slice(), &[2, 3, 4, 5]);
-    assert_eq!(rt; kept(rt.alloc(), window(0), 5)?.as_slice(), &[5]);
-    assert_eq!(rt; kept(rt.alloc(), window(9), 3)?.as_slice(), &[0, 1, 2, 3]);
+    assert_eq!(rt;
+        kept(rt.alloc(), window(3), 5)?.as_slice(),
+        [2, 3, 4, 5].as_slice()
+    );
+    assert_eq!(rt; kept(rt.alloc(), window(0), 5)?.as_slice(), [5].as_slice());
+    assert_eq!(rt;
+        kept(rt.alloc(), window(9), 3)?.as_slice(),
+        [0, 1, 2, 3].as_slice()
+    );
     Ok(())
 }
 
@@ -72,13 +81,19 @@ fn a_window_keeps_the_newest(rt: HostRuntime) -> Result<(), Fail> {
 fn halving_thins_with_age(rt: HostRuntime) -> Result<(), Fail> {
     assert_eq!(rt;
         kept(rt.alloc(), halving(2), 10)?.as_slice(),
-        &[0, 4, 6, 8, 9, 10]
+        [0, 4, 6, 8, 9, 10].as_slice()
     );
-    assert_eq!(rt; kept(rt.alloc(), halving(0), 10)?.as_slice(), &[0, 10]);
-    assert_eq!(rt; kept(rt.alloc(), halving(1), 17)?.as_slice(), &[0, 16, 17]);
+    assert_eq!(rt;
+        kept(rt.alloc(), halving(0), 10)?.as_slice(),
+        [0, 10].as_slice()
+    );
+    assert_eq!(rt;
+        kept(rt.alloc(), halving(1), 17)?.as_slice(),
+        [0, 16, 17].as_slice()
+    );
     assert_eq!(rt;
         kept(rt.alloc(), halving(1), 12)?.as_slice(),
-        &[0, 8, 10, 11, 12]
+        [0, 8, 10, 11, 12].as_slice()
     );
     Ok(())
 }

@@ -3,6 +3,7 @@ use crate::memory::{Memory, Placed, block_byte, first_difference, lent, memory_w
 use packed_log::log::PackedLog;
 use slot_store::slots::SlotStore;
 use std::alloc::{AllocError, Global};
+use std::fmt;
 use std::process::Abort;
 use std::test::Fail;
 use stores::store::Store;
@@ -77,6 +78,19 @@ pub fn clear() -> Step {
     }
 }
 
+/// Where in a script a check stands.
+#[derive(Clone, Copy)]
+struct At<'a> {
+    store: &'a str,
+    step: usize,
+}
+
+impl fmt::Display for At<'_> {
+    fn fmt<W: fmt::Write>(&self, f: &mut fmt::Formatter<W>) -> fmt::Result {
+        write!(f, "{}, step {}, counted from 0", self.store, self.step)
+    }
+}
+
 /// A store whose lent bytes can be looked at.
 pub trait Bytes {
     fn seen(&self) -> &[u8];
@@ -135,29 +149,27 @@ fn holds_block(buffer: &[u8], number: u32, length: usize) -> bool {
 }
 
 // Reads into a buffer: a block at its front, or where the read is refused nothing at all.
-fn read_into<S: Store>(rt: &impl Abort, store: &S, step: Step, buffer: &mut [u8]) {
+fn read_into<S: Store>(rt: &impl Abort, store: &S, at: At<'_>, step: Step, buffer: &mut [u8]) {
     buffer.fill(UNREAD);
     let result = length_and_answer(store.read(step.number, buffer));
-    assert_eq!(rt; result, (step.length, step.answer));
+    assert_eq!(rt; result, (step.length, step.answer), "{at}");
     assert!(rt;
         holds_block(buffer, step.number, step.length),
-        "what the buffer holds"
+        "what the buffer holds: {at}"
     );
 }
 
 // Reads into a buffer that is just long enough and into a longer one.
-fn read_twice<S: Store>(rt: &impl Abort, store: &S, step: Step) -> Result<(), Fail> {
+fn read_twice<S: Store>(rt: &impl Abort, store: &S, at: At<'_>, step: Step) {
     let mut just_enough = [0u8; 64];
-    read_into(rt, store, step, &mut just_enough);
+    read_into(rt, store, at, step, &mut just_enough);
     let mut longer = [0u8; 70];
-    read_into(rt, store, step, &mut longer);
-    Ok(())
+    read_into(rt, store, at, step, &mut longer);
 }
 
-fn read_too_short<S: Store>(rt: &impl Abort, store: &S, step: Step) -> Result<(), Fail> {
+fn read_too_short<S: Store>(rt: &impl Abort, store: &S, at: At<'_>, step: Step) {
     let mut too_short = [0u8; 63];
-    read_into(rt, store, step, &mut too_short);
-    Ok(())
+    read_into(rt, store, at, step, &mut too_short);
 }
 
 // Makes the call and checks its answer.
@@ -165,27 +177,27 @@ fn make_call<S: Store>(
     rt: &impl Abort,
     heap: Global,
     store: &mut S,
+    at: At<'_>,
     step: Step,
 ) -> Result<(), Fail> {
     match step.call {
         Call::Append => {
             let block = block_of(heap, step.number, step.length)?;
             let result = store.append(step.number, block.as_slice());
-            assert_eq!(rt; answer_of(result), step.answer);
-            Ok(())
+            assert_eq!(rt; answer_of(result), step.answer, "{at}");
         }
-        Call::Read => read_twice(rt, store, step),
-        Call::ReadShort => read_too_short(rt, store, step),
+        Call::Read => read_twice(rt, store, at, step),
+        Call::ReadShort => read_too_short(rt, store, at, step),
         Call::DropEntry => {
-            assert_eq!(rt; answer_of(store.drop_entry(step.number)), step.answer);
-            Ok(())
-        },
+            let result = store.drop_entry(step.number);
+            assert_eq!(rt; answer_of(result), step.answer, "{at}");
+        }
         Call::Clear => {
             store.clear();
-            assert_eq!(rt; store.held(), 0);
-            Ok(())
+            assert_eq!(rt; store.held(), 0, "{at}");
         }
     }
+    Ok(())
 }
 
 // Makes a call that is to be refused, and checks that it alters nothing.
@@ -193,17 +205,18 @@ fn refused_call<S: Store + Bytes>(
     rt: &impl Abort,
     heap: Global,
     store: &mut S,
+    at: At<'_>,
     step: Step,
 ) -> Result<(), Fail> {
     let before = store.seen().to_vec(heap)?;
     let held = store.held();
-    make_call(rt, heap, store, step)?;
+    make_call(rt, heap, store, at, step)?;
     assert_eq!(rt;
         first_difference(store.seen(), before.as_slice()),
         None,
-        "a refusal wrote"
+        "a refusal wrote: {at}"
     );
-    assert_eq!(rt; store.held(), held);
+    assert_eq!(rt; store.held(), held, "{at}");
     Ok(())
 }
 
@@ -211,12 +224,13 @@ fn perform<S: Store + Bytes>(
     rt: &impl Abort,
     heap: Global,
     store: &mut S,
+    at: At<'_>,
     step: Step,
 ) -> Result<(), Fail> {
     if step.answer == 0 {
-        make_call(rt, heap, store, step)
+        make_call(rt, heap, store, at, step)
     } else {
-        refused_call(rt, heap, store, step)
+        refused_call(rt, heap, store, at, step)
     }
 }
 
@@ -224,23 +238,28 @@ fn perform<S: Store + Bytes>(
 fn run<S: Store + Bytes>(
     rt: &impl Abort,
     heap: Global,
+    name: &str,
     store: &mut S,
     memory: Memory,
     steps: &[Step],
     entries: &[Placed],
 ) -> Result<(), Fail> {
-    assert_eq!(rt; store.capacity(), memory.capacity);
-    assert_eq!(rt; store.held(), 0);
+    assert_eq!(rt; store.capacity(), memory.capacity, "{name}");
+    assert_eq!(rt; store.held(), 0, "{name}");
     for (place, step) in steps.iter().enumerate() {
-        perform(rt, heap, store, *step).note(format_args!("step {place}, counted from 0"))?;
+        let at = At {
+            store: name,
+            step: place,
+        };
+        perform(rt, heap, store, at, *step)?;
     }
     let expected = memory_with(heap, memory, entries)?;
     assert_eq!(rt;
         first_difference(store.seen(), expected.as_slice()),
         None,
-        "the first byte that is not as expected"
+        "the first byte that is not as expected {name}"
     );
-    assert_eq!(rt; store.held(), entries.len());
+    assert_eq!(rt; store.held(), entries.len(), "{name}");
     Ok(())
 }
 
@@ -254,7 +273,7 @@ pub fn slots_over(
     entries: &[Placed],
 ) -> Result<(), Fail> {
     let mut store = SlotStore::new(bytes);
-    run(rt, heap, &mut store, memory, steps, entries).note("in slots")
+    run(rt, heap, "in slots", &mut store, memory, steps, entries)
 }
 
 /// Runs a script on a packed log over these bytes.
@@ -267,7 +286,7 @@ pub fn log_over(
     entries: &[Placed],
 ) -> Result<(), Fail> {
     let mut store = PackedLog::new(bytes);
-    run(rt, heap, &mut store, memory, steps, entries).note("in a log")
+    run(rt, heap, "in a log", &mut store, memory, steps, entries)
 }
 
 /// Runs a script on a slot store over bytes with old contents.

@@ -110,7 +110,6 @@ fn the_slot_filled_last_is_left(rt: HostRuntime) -> Result<(), Fail> {
         append(4, 1, 0),
     ];
     let entries = [entry(0, 1, 3), entry(69, 4, 1)];
-    in_slots(&rt, rt.alloc(), THREE, &steps, &entries).note(
-        "slot 2 was filled last, and 0 is taken",
-    )
+    // Slot 2 was filled last, and slot 0 is taken.
+    in_slots(&rt, rt.alloc(), THREE, &steps, &entries)
 }
