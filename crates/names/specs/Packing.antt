@@ -1,9 +1,11 @@
 -- How a name is packed into two 64-bit numbers: the first byte most significant, zeros behind the last.
 use Rattle.std.specs.Prelude.{ℕ, Bool, not, ◌&&◌, List, [], ◌∷◌, ◌++◌, length, take, drop, Result, ◌==◌, nat_lt}
 use Rattle.values.specs.Answers.{unless_refused}
-use Rattle.values.specs.BigEndian.{big_endian, bytes_of}
 use Rattle.values.specs.Bytes.{place_of}
 use Rattle.names.specs.NameRule.{is_name, max_name_length}
+-- Definitions that stand below names, and are named from here too.
+pub use Rattle.values.specs.BigEndian.{big_endian, bytes_of}
+pub use Rattle.values.specs.Bytes.{over_front}
 
 -- The two numbers that a name packs to.
 abbrev pub high_of : List ℕ → ℕ

@@ -1,7 +1,7 @@
 -- Entries packed into bytes: what is read back, and what an entry more or less makes of the bytes.
 use Rattle.std.proofs.Common.{◌≡◌, ℕ, suc, ◌+◌, ◌-◌, ◌*◌, ◌^◌, ◌<◌, ◌≤◌, cond, eqb, ◌≢◌, List, [], ◌∷◌, ◌++◌, length, take, drop, replicate, Some, None, Option, sym, refl, ap, ◌∙◌, subst, inl, inr, append_assoc, add-zero, zero-add, arith, length-append}
 use Rattle.std.specs.Option.{option_map}
-use Rattle.std.specs.List.{flat_map, AllByRecursion as All}
+use Rattle.std.specs.List.{flat_map, AllByRecursion}
 use Rattle.std.proofs.lemmas.List.{take_at, drop_at, drop-drop, drop-append-le, drop-replicate, length-replicate, replicate-append-replicate, flat_map_more}
 use Rattle.std.proofs.lemmas.Bool.{cases_Bool, cond-true, cond-false, and_from, le-leb, eq-eqb, ne_eqb}
 use Rattle.values.specs.Bytes.{over}
@@ -17,13 +17,13 @@ use Rattle.packed_log.specs.Log.{packed_length, packed, followed, entries_in, pl
 abbrev pub Readable : Entry → Type 0
 Readable e = (e.number < 2 ^ 32) × BlockSized e.block
 
-rising_readable : (low last : ℕ) (es : List Entry) → last < 2 ^ 32 → Rising low last es → All (λ e. BlockSized e.block) es → All Readable es
+rising_readable : (low last : ℕ) (es : List Entry) → last < 2 ^ 32 → Rising low last es → AllByRecursion (λ e. BlockSized e.block) es → AllByRecursion Readable es
 rising_readable low last [] n r s = tt
 rising_readable low last (e ∷ es) n r s =
     let b = rising_bound e.number last es r.1 in
     ((omega arith, s.0), rising_readable e.number last es n r.1 s.1)
 
-pub lawful_readable : (c : Contents) → Lawful c → All Readable c.held
+pub lawful_readable : (c : Contents) → Lawful c → AllByRecursion Readable c.held
 lawful_readable c l = rising_readable 0 c.last c.held l.narrow l.rising l.sized
 
 -- How long packed entries are.
@@ -32,7 +32,7 @@ joined_both : (es fs : List Entry) → flat_map entry_bytes (es ++ fs) ≡ flat_
 joined_both [] fs = refl
 joined_both (e ∷ es) fs = ap (λ (w : List ℕ). entry_bytes e ++ w) (joined_both es fs) ∙ sym (append_assoc (entry_bytes e) (flat_map entry_bytes es) (flat_map entry_bytes fs))
 
-pub packed_length_bound : (es : List Entry) → All Readable es → packed_length es ≤ length es * 69
+pub packed_length_bound : (es : List Entry) → AllByRecursion Readable es → packed_length es ≤ length es * 69
 packed_length_bound [] f = omega arith
 packed_length_bound (e ∷ es) f =
     let p = packed_length_bound es f.1 in
@@ -45,7 +45,7 @@ packed_length_bound (e ∷ es) f =
 entries_begin : (count : ℕ) (bytes : List ℕ) (e : Entry) → entry_in bytes ≡ Some e → entries_in (suc count) bytes ≡ e ∷ entries_in count (drop (5 + length e.block) bytes)
 entries_begin count bytes e h = ap (λ (o : Option Entry). followed o (λ e. entries_in count (drop (5 + length e.block) bytes))) h
 
-entries_read_back : (es : List Entry) (rest : List ℕ) → All Readable es → entries_in (length es) (flat_map entry_bytes es ++ rest) ≡ es
+entries_read_back : (es : List Entry) (rest : List ℕ) → AllByRecursion Readable es → entries_in (length es) (flat_map entry_bytes es ++ rest) ≡ es
 entries_read_back [] rest f = refl
 entries_read_back (e ∷ es) rest f =
     let behind : List ℕ = flat_map entry_bytes es ++ rest in
@@ -56,7 +56,7 @@ entries_read_back (e ∷ es) rest f =
     ∙ ap (λ (w : List ℕ). e ∷ entries_in (length es) w) d
     ∙ ap (λ (fs : List Entry). e ∷ fs) (entries_read_back es rest f.1)
 
-pub packed_read_back : (room count : ℕ) (es : List Entry) (tail : List ℕ) → All Readable es → count ≡ length es → entries_in count (packed room es tail) ≡ es
+pub packed_read_back : (room count : ℕ) (es : List Entry) (tail : List ℕ) → AllByRecursion Readable es → count ≡ length es → entries_in count (packed room es tail) ≡ es
 packed_read_back room count es tail f c = ap (λ (n : ℕ). entries_in n (packed room es tail)) c ∙ entries_read_back es (replicate (room - packed_length es) 0 ++ tail) f
 
 pub packed_tail : (room : ℕ) (es : List Entry) (tail : List ℕ) → packed_length es ≤ room → drop room (packed room es tail) ≡ tail
@@ -164,23 +164,23 @@ bytes_around before behind e rest =
     ∙ append_assoc (flat_map entry_bytes before) (entry_bytes e ++ flat_map entry_bytes behind) rest
     ∙ ap (λ (w : List ℕ). flat_map entry_bytes before ++ w) (append_assoc (entry_bytes e) (flat_map entry_bytes behind) rest)
 
-all_in_the_middle : (P : Entry → Type 0) (before behind : List Entry) (e : Entry) → All P (before ++ e ∷ behind) → P e
+all_in_the_middle : (P : Entry → Type 0) (before behind : List Entry) (e : Entry) → AllByRecursion P (before ++ e ∷ behind) → P e
 all_in_the_middle P [] behind e h = h.0
 all_in_the_middle P (x ∷ before) behind e h = all_in_the_middle P before behind e h.1
 
-pub entry_read_at_place : (number place : ℕ) (es : List Entry) (rest : List ℕ) (f : Found number 0 place es) → All Readable es
+pub entry_read_at_place : (number place : ℕ) (es : List Entry) (rest : List ℕ) (f : Found number 0 place es) → AllByRecursion Readable es
     → entry_in (drop place (flat_map entry_bytes es ++ rest)) ≡ Some f.found
 entry_read_at_place number place es rest f h =
     let e = f.found in
     let behind : List ℕ = flat_map entry_bytes f.behind ++ rest in
-    let r : Readable e = all_in_the_middle Readable f.before f.behind e (subst (All Readable) f.whole h) in
+    let r : Readable e = all_in_the_middle Readable f.before f.behind e (subst (AllByRecursion Readable) f.whole h) in
     let p : packed_length f.before ≡ place = let q = f.placed in omega arith in
     ap (λ (fs : List Entry). entry_in (drop place (flat_map entry_bytes fs ++ rest))) f.whole
     ∙ ap (λ (w : List ℕ). entry_in (drop place w)) (bytes_around f.before f.behind e rest)
     ∙ ap entry_in (drop_at (flat_map entry_bytes f.before) (entry_bytes e ++ behind) place p)
     ∙ entry_read_back e behind r.0 r.1
 
-pub block_read_at_place : (number : ℕ) (es : List Entry) (rest : List ℕ) → All Readable es → block_at (place_from number 0 es) (flat_map entry_bytes es ++ rest) ≡ block_of number es
+pub block_read_at_place : (number : ℕ) (es : List Entry) (rest : List ℕ) → AllByRecursion Readable es → block_at (place_from number 0 es) (flat_map entry_bytes es ++ rest) ≡ block_of number es
 block_read_at_place number es rest h = at_any (place_from number 0 es) refl
   where
     at_any : (place : Option ℕ) → place_from number 0 es ≡ place → block_at place (flat_map entry_bytes es ++ rest) ≡ block_of number es

@@ -1,6 +1,6 @@
 -- Entries of slots by rising number: what filling and freeing a slot makes of them.
 use Rattle.std.proofs.Common.{◌≡◌, ℕ, zero, suc, ◌<◌, ◌≤◌, Bool, true, false, cond, eqb, ltb, ◌≢◌, List, [], ◌∷◌, ◌++◌, length, get_or, set, replicate, Some, None, Option, sym, refl, ap, ◌∙◌, subst, inl, inr, arith}
-use Rattle.std.specs.List.{AllByRecursion as All}
+use Rattle.std.specs.List.{AllByRecursion}
 use Rattle.std.proofs.ByRecursion.{All-weaker}
 use Rattle.std.proofs.lemmas.Bool.{both_ways, cases_Bool, cond-true, cond-false, ltb-true, ltb-false, lt-ltb, le-ltb, eqb-true, eq-eqb, ne_eqb, cond_both}
 use Rattle.values.proofs.Cases.{none_is_not_some, same_some}
@@ -18,21 +18,21 @@ length-placed e (x ∷ xs) =
     elim (ltb e.number x.number) as (λ t. length (cond t (e ∷ x ∷ xs) (x ∷ placed e xs)) ≡ suc (suc (length xs)))
     [ true ↦ refl | false ↦ ap suc (length-placed e xs) ]
 
-pub All-placed : (P : Entry → Type 0) (e : Entry) (xs : List Entry) → P e → All P xs → All P (placed e xs)
+pub All-placed : (P : Entry → Type 0) (e : Entry) (xs : List Entry) → P e → AllByRecursion P xs → AllByRecursion P (placed e xs)
 All-placed P e [] p h = (p, tt)
 All-placed P e (x ∷ xs) p h =
-    elim (ltb e.number x.number) as (λ t. All P (cond t (e ∷ x ∷ xs) (x ∷ placed e xs)))
+    elim (ltb e.number x.number) as (λ t. AllByRecursion P (cond t (e ∷ x ∷ xs) (x ∷ placed e xs)))
     [ true ↦ (p, h) | false ↦ (h.0, All-placed P e xs p h.1) ]
 
-pub all_before_placing : (P : Entry → Type 0) (e : Entry) (xs : List Entry) → All P (placed e xs) → P e × All P xs
+pub all_before_placing : (P : Entry → Type 0) (e : Entry) (xs : List Entry) → AllByRecursion P (placed e xs) → P e × AllByRecursion P xs
 all_before_placing P e [] h = (h.0, tt)
 all_before_placing P e (x ∷ xs) h =
     elim (cases_Bool (ltb e.number x.number)) [
-      | inl t ↦ let g : All P (e ∷ x ∷ xs) = rw t at h in (g.0, g.1)
-      | inr t ↦ let g : All P (x ∷ placed e xs) = rw t at h in let p = all_before_placing P e xs g.1 in (p.0, (g.0, p.1))
+      | inl t ↦ let g : AllByRecursion P (e ∷ x ∷ xs) = rw t at h in (g.0, g.1)
+      | inr t ↦ let g : AllByRecursion P (x ∷ placed e xs) = rw t at h in let p = all_before_placing P e xs g.1 in (p.0, (g.0, p.1))
     ]
 
-pub placed_last : (e : Entry) (xs : List Entry) → All (λ x. x.number < e.number) xs → placed e xs ≡ xs ++ e ∷ []
+pub placed_last : (e : Entry) (xs : List Entry) → AllByRecursion (λ x. x.number < e.number) xs → placed e xs ≡ xs ++ e ∷ []
 placed_last e [] h = refl
 placed_last e (x ∷ xs) h =
     cond-false _ _ _ (le-ltb e.number x.number (omega (arith, h.0))) ∙ ap (λ (l : List Entry). x ∷ l) (placed_last e xs h.1)
@@ -126,7 +126,7 @@ abbrev pub InSlot : (P : Entry → Type 0) → Option Entry → Type 0
 InSlot P None = Unit {0}
 InSlot P (Some e) = P e
 
-pub all_in_slots : (P : Entry → Type 0) (slots : List (Option Entry)) → All P (ranked slots) → All (InSlot P) slots
+pub all_in_slots : (P : Entry → Type 0) (slots : List (Option Entry)) → AllByRecursion P (ranked slots) → AllByRecursion (InSlot P) slots
 all_in_slots P [] h = tt
 all_in_slots P (None ∷ slots) h = (tt, all_in_slots P slots h)
 all_in_slots P (Some e ∷ slots) h = let p = all_before_placing P e (ranked slots) h in (p.0, all_in_slots P slots p.1)
@@ -157,19 +157,19 @@ others_lack low last (Some y ∷ slots) (suc s) e h g r =
     let ne : e.number ≢ y.number = in_slot (λ x. x.number ≢ y.number) slots s e (omega arith) g at in
     All-placed (λ x. x.number ≢ e.number) y (ranked (set slots s None)) (λ q. ne (sym q)) rest
   where
-    in_slot : (P : Entry → Type 0) (slots : List (Option Entry)) (s : ℕ) (e : Entry) → s < length slots → get_or slots s None ≡ Some e → All (InSlot P) slots → P e
+    in_slot : (P : Entry → Type 0) (slots : List (Option Entry)) (s : ℕ) (e : Entry) → s < length slots → get_or slots s None ≡ Some e → AllByRecursion (InSlot P) slots → P e
     in_slot P [] s e h g a = absurd (omega arith)
     in_slot P (o ∷ slots) zero e h g a = subst (InSlot P) g a.0
     in_slot P (o ∷ slots) (suc s) e h g a = in_slot P slots s e (omega arith) g a.1
 
-pub none_found : (number : ℕ) (slots : List (Option Entry)) → All (λ o. holds (Some number) o ≡ false) slots → Lacks number (ranked slots)
+pub none_found : (number : ℕ) (slots : List (Option Entry)) → AllByRecursion (λ o. holds (Some number) o ≡ false) slots → Lacks number (ranked slots)
 none_found number [] h = tt
 none_found number (None ∷ slots) h = none_found number slots h.1
 none_found number (Some y ∷ slots) h =
     All-placed (λ x. x.number ≢ number) y (ranked slots) (λ q. both_ways _ h.0 (eq-eqb y.number number q)) (none_found number slots h.1)
 
 -- Where no slot is free, there are as many entries as slots.
-pub all_taken : (slots : List (Option Entry)) → All (λ o. holds None o ≡ false) slots → length (ranked slots) ≡ length slots
+pub all_taken : (slots : List (Option Entry)) → AllByRecursion (λ o. holds None o ≡ false) slots → length (ranked slots) ≡ length slots
 all_taken [] h = refl
 all_taken (None ∷ slots) h = let z : ◌≡◌ {A = ℕ} 0 1 = let q = h.0 in cc in absurd (omega arith)
 all_taken (Some y ∷ slots) h = length-placed y (ranked slots) ∙ ap suc (all_taken slots h.1)

@@ -1,6 +1,6 @@
 -- Searches: what they pass over, and what they find.
 use Rattle.std.proofs.Common.{◌≡◌, ℕ, zero, suc, ◌+◌, ◌-◌, ◌<◌, ◌≤◌, min, Bool, true, false, cond, eqb, ◌⊎◌, List, [], ◌∷◌, ◌++◌, length, get_or, take, drop, is_some, Some, None, Option, sym, refl, ap, ◌∙◌, subst, inl, inr, add-zero, add-suc, suc-add, zero-add, add-one, arith, MatchOption}
-use Rattle.std.specs.List.{AllByRecursion as All}
+use Rattle.std.specs.List.{AllByRecursion}
 use Rattle.std.proofs.ByRecursion.{All-append, All-get_or}
 use Rattle.std.proofs.lemmas.List.{get_or-drop, get_or-take, length-drop, length-take, drop_more, drop_all, take-append-drop}
 use Rattle.std.proofs.lemmas.Bool.{cases_Bool, cond-true, cond-false}
@@ -22,7 +22,7 @@ stopped_at test at xs d h e = ap (first_place test at) (drop_more xs at d h) ∙
 pub ran_out : {X : Type 0} (test : X → Bool) (at : ℕ) (xs : List X) → length xs ≤ at → first_place test at (drop at xs) ≡ None
 ran_out test at xs h = ap (first_place test at) (drop_all at xs h)
 
-pub none_passes : {X : Type 0} (test : X → Bool) (at : ℕ) (xs : List X) → first_place test at xs ≡ None → All (λ x. test x ≡ false) xs
+pub none_passes : {X : Type 0} (test : X → Bool) (at : ℕ) (xs : List X) → first_place test at xs ≡ None → AllByRecursion (λ x. test x ≡ false) xs
 none_passes test at [] e = tt
 none_passes test at (x ∷ xs) e =
     elim (cases_Bool (test x)) [
@@ -47,14 +47,14 @@ one_passes test at (x ∷ xs) place d e =
           (omega arith, omega arith, rw k q.2)
     ]
 
-pub round_none : {X : Type 0} (test : X → Bool) (start : ℕ) (xs : List X) → going_round test start xs ≡ None → All (λ x. test x ≡ false) xs
+pub round_none : {X : Type 0} (test : X → Bool) (start : ℕ) (xs : List X) → going_round test start xs ≡ None → AllByRecursion (λ x. test x ≡ false) xs
 round_none test start xs e =
     split (first_place test start (drop start xs)) refl
   where
-    split : (o : Option ℕ) → first_place test start (drop start xs) ≡ o → All (λ x. test x ≡ false) xs
+    split : (o : Option ℕ) → first_place test start (drop start xs) ≡ o → AllByRecursion (λ x. test x ≡ false) xs
     split None f =
         let g : first_place test 0 (take start xs) ≡ None = rw f at e in
-        subst (All (λ x. test x ≡ false)) (take-append-drop start xs)
+        subst (AllByRecursion (λ x. test x ≡ false)) (take-append-drop start xs)
         (All-append (λ x. test x ≡ false) (take start xs) (drop start xs) (none_passes test 0 (take start xs) g) (none_passes test start (drop start xs) f))
     split (Some p) f = absurd (none_is_not_some (sym (rw f at e)))
 
@@ -113,7 +113,7 @@ passed_by test at (x ∷ xs) place d e k h =
     first_or_later zero h t later = t
     first_or_later (suc k) h t later = later k (omega arith)
 
-none_at : {X : Type 0} (test : X → Bool) (xs : List X) (k : ℕ) (d : X) → All (λ x. test x ≡ false) xs → k < length xs → test (get_or xs k d) ≡ false
+none_at : {X : Type 0} (test : X → Bool) (xs : List X) (k : ℕ) (d : X) → AllByRecursion (λ x. test x ≡ false) xs → k < length xs → test (get_or xs k d) ≡ false
 none_at test xs k d a h = All-get_or (λ x. test x ≡ false) xs k d h a
 
 pub nearest_is_found : NearestIsFound
@@ -151,7 +151,7 @@ nearest_is_found test start slots = found (going_round test start slots) refl
           | inr n ↦ elim n.1 [ inl o ↦ rest place f o h | inr o ↦ below place q g (omega arith) o ]
         ]
 
-    found : (r : Option ℕ) → going_round test start slots ≡ r → MatchOption r (All (λ o. test o ≡ false) slots)
+    found : (r : Option ℕ) → going_round test start slots ≡ r → MatchOption r (AllByRecursion (λ o. test o ≡ false) slots)
         (λ found. (found < length slots) × (test (get_or slots found None) ≡ true) × ((place : ℕ) → place < length slots → MetBefore start found place → test (get_or slots place None) ≡ false))
     found None e = round_none test start slots e
     found (Some q) e =

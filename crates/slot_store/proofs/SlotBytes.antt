@@ -1,6 +1,6 @@
 -- Slots in bytes: reading them back, and writing one.
 use Rattle.std.proofs.Common.{◌≡◌, ℕ, zero, suc, ◌+◌, ◌-◌, ◌*◌, ◌/◌, ◌^◌, ◌<◌, ◌≤◌, min, List, [], ◌∷◌, ◌++◌, length, get_or, take, drop, set, replicate, Some, None, Option, sym, refl, ap, ◌∙◌, ap₂, append_assoc, add-zero, zero-add, div-mul-le_self, arith, length-append}
-use Rattle.std.specs.List.{flat_map, AllByRecursion as All}
+use Rattle.std.specs.List.{flat_map, AllByRecursion}
 use Rattle.std.proofs.lemmas.List.{drop_at, drop-drop, length-replicate, length-drop, drop-replicate, drop-append-le, replicate-append-replicate, take_all}
 use Rattle.values.specs.Bytes.{over}
 use Rattle.values.proofs.Over.{over_behind, over_front_part}
@@ -22,7 +22,7 @@ length-slot (Some e) v =
     let m = v.1.1 in
     simp length-append (omega arith)
 
-pub length-slots : (slots : List (Option Entry)) → All (InSlot Storable) slots → length (flat_map slot_bytes slots) ≡ length slots * 69
+pub length-slots : (slots : List (Option Entry)) → AllByRecursion (InSlot Storable) slots → length (flat_map slot_bytes slots) ≡ length slots * 69
 length-slots [] v = refl
 length-slots (o ∷ slots) v =
     let a = length-slot o v.0 in
@@ -35,7 +35,7 @@ slot_read_back (Some e) rest v =
     ap entry_in (append_assoc (entry_bytes e) (replicate (64 - length e.block) 0) rest)
     ∙ entry_read_back e (replicate (64 - length e.block) 0 ++ rest) v.0 v.1
 
-pub slots_read_back : (slots : List (Option Entry)) (tail : List ℕ) → All (InSlot Storable) slots → slots_in (length slots) (slotted slots tail) ≡ slots
+pub slots_read_back : (slots : List (Option Entry)) (tail : List ℕ) → AllByRecursion (InSlot Storable) slots → slots_in (length slots) (slotted slots tail) ≡ slots
 slots_read_back [] tail v = refl
 slots_read_back (o ∷ slots) tail v =
     let g : slotted (o ∷ slots) tail ≡ slot_bytes o ++ slotted slots tail = append_assoc (slot_bytes o) (flat_map slot_bytes slots) tail in
@@ -63,7 +63,7 @@ fewer_slots (suc m) (suc n) bytes =
     ap (λ (k : ℕ). slots_in k bytes) e ∙ ap (λ (l : List (Option Entry)). entry_in bytes ∷ l) (fewer_slots m n (drop 69 bytes))
 
 -- A write within one slot.
-written_in_slot : (s : ℕ) (ys : List ℕ) (o : Option Entry) (slots : List (Option Entry)) (tail : List ℕ) → All (InSlot Storable) slots → s < length slots
+written_in_slot : (s : ℕ) (ys : List ℕ) (o : Option Entry) (slots : List (Option Entry)) (tail : List ℕ) → AllByRecursion (InSlot Storable) slots → s < length slots
     → ((rest : List ℕ) → over 0 ys (slot_bytes (get_or slots s None) ++ rest) ≡ slot_bytes o ++ rest) → over (s * 69) ys (slotted slots tail) ≡ slotted (set slots s o) tail
 written_in_slot s ys o [] tail v h f = absurd (omega arith)
 written_in_slot zero ys o (x ∷ slots) tail v h f =
@@ -78,7 +78,7 @@ written_in_slot (suc s) ys o (x ∷ slots) tail v h f =
     ∙ sym (append_assoc (slot_bytes x) (flat_map slot_bytes (set slots s o)) tail)
 
 -- An entry written into a free slot.
-pub slot_filled : (s : ℕ) (e : Entry) (slots : List (Option Entry)) (tail : List ℕ) → All (InSlot Storable) slots → Storable e → s < length slots → get_or slots s None ≡ None
+pub slot_filled : (s : ℕ) (e : Entry) (slots : List (Option Entry)) (tail : List ℕ) → AllByRecursion (InSlot Storable) slots → Storable e → s < length slots → get_or slots s None ≡ None
     → over (s * 69) (entry_bytes e) (slotted slots tail) ≡ slotted (set slots s (Some e)) tail
 slot_filled s e slots tail v w h g =
     written_in_slot s (entry_bytes e) (Some e) slots tail v h (λ rest. ap (λ (o : Option Entry). over 0 (entry_bytes e) (slot_bytes o ++ rest)) g ∙ filled rest)
@@ -98,14 +98,14 @@ slot_filled s e slots tail v w h g =
         ∙ sym (append_assoc (entry_bytes e) (replicate (64 - length e.block) 0) rest)
 
 -- A slot that is zeroed.
-pub slot_freed : (s size : ℕ) (slots : List (Option Entry)) (tail : List ℕ) → All (InSlot Storable) slots → s < length slots → size ≡ 69
+pub slot_freed : (s size : ℕ) (slots : List (Option Entry)) (tail : List ℕ) → AllByRecursion (InSlot Storable) slots → s < length slots → size ≡ 69
     → over (s * 69) (replicate size 0) (slotted slots tail) ≡ slotted (set slots s None) tail
 slot_freed s size slots tail v h e =
     let l = length-slot (get_or slots s None) (at s slots v h) in
     ap (λ (k : ℕ). over (s * 69) (replicate k 0) (slotted slots tail)) e
     ∙ written_in_slot s (replicate 69 0) None slots tail v h (λ rest. over_front_part (replicate 69 0) (slot_bytes (get_or slots s None)) rest (sym l))
   where
-    at : (s : ℕ) (slots : List (Option Entry)) → All (InSlot Storable) slots → s < length slots → InSlot Storable (get_or slots s None)
+    at : (s : ℕ) (slots : List (Option Entry)) → AllByRecursion (InSlot Storable) slots → s < length slots → InSlot Storable (get_or slots s None)
     at s [] v h = absurd (omega arith)
     at zero (x ∷ slots) v h = v.0
     at (suc s) (x ∷ slots) v h = at s slots v.1 (omega arith)
@@ -116,7 +116,7 @@ free_slots_bytes (suc n) =
     let m : 69 + n * 69 ≡ suc n * 69 = omega arith in
     ap (λ (w : List ℕ). replicate 69 0 ++ w) (free_slots_bytes n) ∙ replicate-append-replicate {A = ℕ} 69 (n * 69) 0 ∙ ap (λ (k : ℕ). replicate k 0) m
 
-pub free_slots_storable : (n : ℕ) → All (InSlot Storable) (replicate n None)
+pub free_slots_storable : (n : ℕ) → AllByRecursion (InSlot Storable) (replicate n None)
 free_slots_storable zero = tt
 free_slots_storable (suc n) = (tt, free_slots_storable n)
 
@@ -130,7 +130,7 @@ pub record Relaid (bytes after : List ℕ) (new : List (Option Entry)) : Type 0 
   pub tail : tail_of after ≡ tail_of bytes
   pub laid : after ≡ slotted (slots_of after) (tail_of after)
 
-pub relaid : (bytes after : List ℕ) (slots : List (Option Entry)) → length slots ≡ capacity_of (length bytes) → All (InSlot Storable) slots
+pub relaid : (bytes after : List ℕ) (slots : List (Option Entry)) → length slots ≡ capacity_of (length bytes) → AllByRecursion (InSlot Storable) slots
     → after ≡ slotted slots (tail_of bytes) → Relaid bytes after slots
 relaid bytes after slots l v e =
     let n : ℕ = capacity_of (length bytes) in

@@ -1,7 +1,7 @@
 -- What filling, freeing and zeroing slots makes of the contents of a slot store.
 use Rattle.std.proofs.Common.{◌≡◌, ℕ, suc, ◌+◌, ◌-◌, ◌*◌, ◌^◌, ◌<◌, ◌≤◌, Bool, true, false, List, [], ◌∷◌, ◌++◌, length, get_or, drop, set, replicate, is_some, Some, None, Option, sym, refl, ap, ◌∙◌, subst, ap₂, zero-add, arith, length-append, MatchOption}
 use Rattle.std.specs.Option.{option_map}
-use Rattle.std.specs.List.{flat_map, AllByRecursion as All}
+use Rattle.std.specs.List.{flat_map, AllByRecursion}
 use Rattle.std.proofs.ByRecursion.{All-set, All-weaker}
 use Rattle.std.proofs.lemmas.List.{length-set, length-replicate, get_or-set_same, set-set, set-get_or}
 use Rattle.std.proofs.lemmas.Bool.{cond-true, and_from, le-leb}
@@ -26,12 +26,12 @@ contents_in bytes last = record { held = ranked (slots_of bytes); last = last; c
 abbrev pub LaidOut : (bytes : List ℕ) → Type 0
 LaidOut bytes = bytes ≡ slotted (slots_of bytes) (tail_of bytes)
 
-both_parts : (P Q : Entry → Type 0) (xs : List Entry) → All P xs → All Q xs → All (λ x. P x × Q x) xs
+both_parts : (P Q : Entry → Type 0) (xs : List Entry) → AllByRecursion P xs → AllByRecursion Q xs → AllByRecursion (λ x. P x × Q x) xs
 both_parts P Q [] p q = tt
 both_parts P Q (x ∷ xs) p q = ((p.0, q.0), both_parts P Q xs p.1 q.1)
 
 -- The entries of a lawful store can be written to slots.
-pub storable_slots : (bytes : List ℕ) (last : ℕ) → Lawful (contents_in bytes last) → All (InSlot Storable) (slots_of bytes)
+pub storable_slots : (bytes : List ℕ) (last : ℕ) → Lawful (contents_in bytes last) → AllByRecursion (InSlot Storable) (slots_of bytes)
 storable_slots bytes last l =
     let n = l.narrow in
     all_in_slots Storable (slots_of bytes)
@@ -104,7 +104,7 @@ found_block bytes last number slot l h t =
     ap (block_of number) (ranked_at (slots_of bytes) slot e h p.1 lacks) ∙ found_placed number p.0 (ranked (set (slots_of bytes) slot None)) lacks in
     (ap (option_map (λ x. x.block)) there ∙ sym found, ap is_some found)
 
-pub no_block_found : (bytes : List ℕ) (number : ℕ) → All (λ o. holds (Some number) o ≡ false) (slots_of bytes) → block_of number (ranked (slots_of bytes)) ≡ None
+pub no_block_found : (bytes : List ℕ) (number : ℕ) → AllByRecursion (λ o. holds (Some number) o ≡ false) (slots_of bytes) → block_of number (ranked (slots_of bytes)) ≡ None
 no_block_found bytes number h = nothing_found number (ranked (slots_of bytes)) (none_found number (slots_of bytes) h)
 
 -- An entry dropped.
@@ -140,7 +140,7 @@ drop_step bytes after last slot number laid l h t w =
       fewer = ap length rank ∙ length-placed e (ranked new) ∙ ap (λ (ss : List (Option Entry)). suc (length (ranked ss))) (sym again.slots);
     }
 
--- All slots zeroed.
+-- AllByRecursion slots zeroed.
 
 pub record Cleared (bytes after : List ℕ) : Type 0 where
   pub contents : contents_in after 0 ≡ emptied (capacity_of (length bytes))

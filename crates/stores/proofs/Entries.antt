@@ -1,13 +1,13 @@
 -- Lists of entries by rising number: what is found in them, and what an entry more or less makes of them.
 use Rattle.std.proofs.Common.{◌≡◌, ℕ, suc, ◌<◌, ◌≤◌, Bool, true, false, cond, eqb, ◌≢◌, List, [], ◌∷◌, ◌++◌, length, is_some, Some, None, Option, sym, refl, ap, ◌∙◌, inl, inr, arith}
-use Rattle.std.specs.List.{AllByRecursion as All}
+use Rattle.std.specs.List.{AllByRecursion}
 use Rattle.std.proofs.lemmas.Bool.{both_ways, cases_Bool, cond-true, cond-false, eqb-true, eq-eqb, ne_eqb}
 use Rattle.stores.specs.Contents.{Entry, entry, without, block_of}
 use Rattle.stores.specs.Laws.{Rising}
 
 -- No entry has this number.
 abbrev pub Lacks : (number : ℕ) → List Entry → Type 0
-Lacks number es = All (λ e. e.number ≢ number) es
+Lacks number es = AllByRecursion (λ e. e.number ≢ number) es
 
 pub nothing_found : (number : ℕ) (es : List Entry) → Lacks number es → block_of number es ≡ None
 nothing_found number [] h = refl
@@ -36,10 +36,10 @@ found_without other number (e ∷ es) h =
           ∙ ap (λ (o : Option (List ℕ)). cond (eqb e.number other) (Some e.block) o) (found_without other number es h)
     ]
 
-pub All-without : (P : Entry → Type 0) (number : ℕ) (es : List Entry) → All P es → All P (without number es)
+pub All-without : (P : Entry → Type 0) (number : ℕ) (es : List Entry) → AllByRecursion P es → AllByRecursion P (without number es)
 All-without P number [] h = tt
 All-without P number (e ∷ es) h =
-    elim (eqb e.number number) as (λ t. All P (cond t es (e ∷ without number es)))
+    elim (eqb e.number number) as (λ t. AllByRecursion P (cond t es (e ∷ without number es)))
     [ true ↦ h.1 | false ↦ (h.0, All-without P number es h.1) ]
 
 pub length-without : (number : ℕ) (es : List Entry) → is_some (block_of number es) ≡ true → length es ≡ suc (length (without number es))
@@ -68,11 +68,11 @@ pub rising_lower : (low more last : ℕ) (es : List Entry) → low ≤ more → 
 rising_lower low more last [] l h = omega arith
 rising_lower low more last (e ∷ es) l h = (omega (arith, h.0), h.1)
 
-pub rising_all_above : (low last : ℕ) (es : List Entry) → Rising low last es → All (λ e. low < e.number) es
+pub rising_all_above : (low last : ℕ) (es : List Entry) → Rising low last es → AllByRecursion (λ e. low < e.number) es
 rising_all_above low last [] h = tt
 rising_all_above low last (e ∷ es) h = (h.0, rising_all_above low last es (rising_lower low e.number last es (omega (arith, h.0)) h.1))
 
-pub rising_all_up_to : (low last : ℕ) (es : List Entry) → Rising low last es → All (λ e. e.number ≤ last) es
+pub rising_all_up_to : (low last : ℕ) (es : List Entry) → Rising low last es → AllByRecursion (λ e. e.number ≤ last) es
 rising_all_up_to low last [] h = tt
 rising_all_up_to low last (e ∷ es) h = (rising_bound e.number last es h.1, rising_all_up_to e.number last es h.1)
 
