@@ -84,7 +84,7 @@ without-placed word-in-text written-in-slot zero-th zeros-are-fewer zeros-are-mo
 IN_POLICIES = {"firstOf": "first_among", "first_of": "first_among", "first-of-is-least": "first_among_is_least"}
 
 CAMEL = re.compile(r"[a-z][a-z0-9]*(?:[A-Z][A-Za-z0-9]*)+$")
-TOKEN = re.compile(r"[A-Za-z_][A-Za-z0-9_']*(?:-[A-Za-z0-9_']+)*")
+TOKEN = re.compile(r"(?<![0-9])[A-Za-z_][A-Za-z0-9_']*(?:-[A-Za-z0-9_']+)*")  # and no digits after 0x
 STRING = re.compile(r'b?"(?:[^"\\]|\\.)*"')
 
 

@@ -30,8 +30,8 @@ pub trait Policy {
     ghost bounded: { (p : Self) (t m : ℕ) → m < t → kept p t m ≡ false };
 }
 
-/// States that `first_kept`, of which the contract of `first_kept` speaks, is the least kept moment
-/// of a stretch of moments, and none only where no moment of the stretch is kept.
+/// States that what the contract of [`Policy::first_kept`] equates its answer with is the least kept
+/// moment of a stretch of moments, and none only where no moment of the stretch is kept.
 pub fn first_kept_is_least()
     ensures { FirstKeptIsLeast }
 {}

@@ -27,7 +27,7 @@ pub record Examples : Type 0 where
   -- names stand in byte order
   pub a_before_a_srt : byte_order (codes "a") (codes "a.srt") ≡ Less
   pub a_srt_before_b : byte_order (codes "a.srt") (codes "b") ≡ Less
-  pub a_srt_packed : packing (codes "a.srt") ≡ Ok (0x612_e737274000000, 0)
+  pub a_srt_packed : packing (codes "a.srt") ≡ Ok (0x612E737274000000, 0)
   -- what policies keep
   pub window_three : kept_moments (kept_by_window 3) 5 ≡ 2 ∷ 3 ∷ 4 ∷ 5 ∷ []
   pub halving_two : kept_moments (kept_by_halving 2) 10 ≡ 0 ∷ 4 ∷ 6 ∷ 8 ∷ 9 ∷ 10 ∷ []
