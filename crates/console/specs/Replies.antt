@@ -1,5 +1,5 @@
 -- What the program replies to a command, in the state that the command finds.
-use Rattle.std.specs.Prelude.{◌≡◌, ℕ, Bool, cond, ◌||◌, Some, None, Ok, Err, Option, Result, nat_lt}
+use Rattle.std.specs.Prelude.{◌≡◌, ℕ, cond, ◌||◌, Some, None, Ok, Err, Option, Result, nat_lt}
 use Rattle.values.specs.Moments.{last_moment}
 use Rattle.values.specs.Refusals.{number_of}
 use Rattle.values.specs.declared.refusal.Refusal.{Refusal}

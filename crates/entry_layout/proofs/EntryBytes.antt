@@ -1,8 +1,8 @@
 -- Entries read from bytes, and bytes written of entries.
-use Rattle.std.proofs.Common.{◌≡◌, ℕ, ◌+◌, ◌-◌, ◌*◌, ◌/◌, ◌%◌, ◌^◌, ◌<◌, ◌≤◌, Bool, true, false, cond, leb, ◌⊎◌, List, [], ◌∷◌, ◌++◌, length, get_or, take, drop, set, Some, None, Option, sym, refl, ap, ◌∙◌, ap₂, inl, inr, append_assoc, add-zero, arith, length-append}
+use Rattle.std.proofs.Common.{◌≡◌, ℕ, ◌+◌, ◌-◌, ◌*◌, ◌/◌, ◌%◌, ◌^◌, ◌<◌, ◌≤◌, leb, ◌⊎◌, List, [], ◌∷◌, ◌++◌, length, get_or, take, drop, set, Some, None, sym, refl, ap, ◌∙◌, ap₂, inl, inr, add-zero, arith, length-append}
 use native.Mathlib.Nat.{div-div-eq-div-mul}
 use borrow.Rule.Slice.PartMut.{put_mid}
-use Rattle.std.proofs.lemmas.List.{get_or-drop, get_or_past, drop-drop, length-drop, take_at, drop_at}
+use Rattle.std.proofs.lemmas.List.{get_or-drop, get_or_past, drop-drop, length-drop, take_at}
 use Rattle.std.proofs.lemmas.Bool.{cond-true, cond-false, and_from, and_left, and_right, le-leb, lt-leb}
 use Rattle.values.specs.BigEndian.{big_endian, bytes_of}
 use Rattle.values.specs.Bytes.{over}
@@ -10,7 +10,7 @@ use Rattle.values.proofs.BigEndian.{four_bytes}
 use Rattle.values.proofs.Over.{part_written, place_written, length-over, over_next}
 use Rattle.stores.specs.Contents.{Entry, entry}
 use Rattle.stores.specs.Laws.{BlockSized}
-use Rattle.entry_layout.specs.Layout.{header, entry_bytes, begins_entry, entry_in}
+use Rattle.entry_layout.specs.Layout.{entry_bytes, entry_in}
 
 -- Reading.
 

@@ -1,5 +1,5 @@
 -- Which moments see a version.
-use Rattle.std.specs.Prelude.{ℕ, Bool, true, false, ◌&&◌, Some, None, Option, nat_le, nat_lt}
+use Rattle.std.specs.Prelude.{ℕ, Bool, true, ◌&&◌, Some, None, Option, nat_le, nat_lt}
 
 -- Whether a version has yet to end after the moment u. One without an end is open.
 abbrev pub ends_after : Option ℕ → (u : ℕ) → Bool

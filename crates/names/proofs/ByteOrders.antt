@@ -1,5 +1,5 @@
 -- The byte order of names is the order of their packed pairs.
-use Rattle.std.proofs.Common.{◌≡◌, ℕ, zero, suc, ◌+◌, ◌*◌, ◌^◌, ◌<◌, ◌≤◌, true, cond, List, [], ◌∷◌, length, drop, Ordering, Less, Equal, Greater, sym, refl, ap, ◌∙◌, ap₂, inl, inr, mul-le-mul_right, add-mul, arith}
+use Rattle.std.proofs.Common.{◌≡◌, ℕ, zero, suc, ◌+◌, ◌*◌, ◌^◌, ◌<◌, ◌≤◌, true, List, [], ◌∷◌, length, drop, Ordering, sym, refl, ap, ◌∙◌, ap₂, inl, inr, mul-le-mul_right, add-mul, arith}
 use Rattle.std.proofs.lemmas.Bool.{cases_order}
 use Rattle.std.proofs.lemmas.Bool.Decides.{nat_tests}
 use Rattle.std.specs.Ordering.{ordering_then}
@@ -7,7 +7,7 @@ use Rattle.names.specs.ByteOrder.{number_order, byte_order}
 use Rattle.names.specs.NameRule.{is_name}
 use Rattle.values.specs.BigEndian.{big_endian}
 use Rattle.names.specs.Packing.{high_of, low_of, spelled, is_packed}
-use Rattle.values.proofs.BigEndian.{Bytes, Bytes-drop, power_is_positive, big_endian_bound, big_endian_split}
+use Rattle.values.proofs.BigEndian.{Bytes-drop, power_is_positive, big_endian_bound, big_endian_split}
 use Rattle.names.proofs.NameBytes.{Nonzero, name_is_short, name_is_nonzero}
 use Rattle.names.proofs.Names.{nonzero_bytes, packed_parts}
 

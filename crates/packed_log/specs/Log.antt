@@ -1,5 +1,5 @@
 -- Entries that stand end to end in bytes.
-use Rattle.std.specs.Prelude.{ℕ, zero, suc, ◌+◌, ◌-◌, ◌*◌, Bool, cond, ◌&&◌, List, [], ◌∷◌, ◌++◌, length, take, drop, replicate, Some, None, Option, ◌==◌, nat_le}
+use Rattle.std.specs.Prelude.{ℕ, zero, suc, ◌+◌, ◌-◌, ◌*◌, cond, ◌&&◌, List, [], ◌∷◌, ◌++◌, length, take, drop, replicate, Some, None, Option, ◌==◌, nat_le}
 use Rattle.std.specs.List.{flat_map}
 use Rattle.stores.specs.Contents.{Entry}
 use Rattle.entry_layout.specs.Layout.{capacity_of, entry_bytes, entry_in}

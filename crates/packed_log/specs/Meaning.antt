@@ -1,5 +1,5 @@
 -- What a packed log means, what it keeps true of itself, and which bytes it holds.
-use Rattle.std.specs.Prelude.{◌≡◌, ℕ, List, length, drop}
+use Rattle.std.specs.Prelude.{◌≡◌, length, drop}
 use Rattle.stores.specs.Contents.{Contents}
 use Rattle.stores.specs.Laws.{Lawful}
 use Rattle.entry_layout.specs.Layout.{capacity_of}

@@ -1,9 +1,9 @@
 -- The columns of a stretch, and the rows of a table of ages, hold each moment once.
-use Rattle.std.proofs.Common.{◌≡◌, ℕ, zero, suc, ◌+◌, ◌-◌, ◌*◌, ◌/◌, ◌%◌, ◌^◌, ◌<◌, ◌≤◌, min, max, Bool, true, false, cond, ◌&&◌, eqb, ltb, leb, Some, None, Option, sym, ap, ◌∙◌, subst, inl, inr, mul-le-mul_right, mod-lt, mul_comm, div-lt_iff_lt-mul, add-mul, pow-suc, div-add-mod', mul-add, div-mul-le_self, arith, pow_pos, pow_mono}
+use Rattle.std.proofs.Common.{◌≡◌, ℕ, zero, suc, ◌+◌, ◌-◌, ◌*◌, ◌/◌, ◌%◌, ◌^◌, ◌<◌, ◌≤◌, min, max, Bool, true, ◌&&◌, eqb, ltb, leb, None, sym, ap, ◌∙◌, subst, inl, inr, mul-le-mul_right, mod-lt, mul_comm, div-lt_iff_lt-mul, add-mul, pow-suc, div-add-mod', mul-add, div-mul-le_self, arith, pow_pos, pow_mono}
 use native.Mathlib.Nat.{lt-div-mul-add}
 use Rattle.std.proofs.lemmas.Bool.{cases_Bool, cases_lt, cases_order, cond-true, cond-false, lt-ltb, le-ltb, le-leb, lt-leb, leb-true, ltb-true, eqb-true, eq-eqb, ne_eqb, and_left, and_from, and_parts}
 use Rattle.std.proofs.lemmas.Bool.Decides.{nat_tests}
-use Rattle.reports.specs.Stretches.{column_width, column_from, column_of, aged_from, ages_of, holds, ColumnsHoldEachOnce, RowsHoldEachOnce}
+use Rattle.reports.specs.Stretches.{column_width, column_from, ages_of, holds, ColumnsHoldEachOnce, RowsHoldEachOnce}
 
 -- A column holds what begins at its start and comes before the next column's.
 column_holds : (start width last t : ℕ) → 0 < width → t ≤ last → holds (column_from start width last) t ≡ (leb start t && ltb t (start + width))

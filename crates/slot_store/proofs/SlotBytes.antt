@@ -1,7 +1,7 @@
 -- Slots in bytes: reading them back, and writing one.
-use Rattle.std.proofs.Common.{◌≡◌, ℕ, zero, suc, ◌+◌, ◌-◌, ◌*◌, ◌/◌, ◌^◌, ◌<◌, ◌≤◌, min, List, [], ◌∷◌, ◌++◌, length, get_or, take, drop, set, replicate, Some, None, Option, sym, refl, ap, ◌∙◌, ap₂, append_assoc, add-zero, zero-add, div-mul-le_self, arith, length-append}
+use Rattle.std.proofs.Common.{◌≡◌, ℕ, zero, suc, ◌+◌, ◌-◌, ◌*◌, ◌^◌, ◌<◌, ◌≤◌, min, List, [], ◌∷◌, ◌++◌, length, get_or, take, drop, set, replicate, Some, None, Option, sym, refl, ap, ◌∙◌, ap₂, append_assoc, arith, length-append}
 use Rattle.std.specs.List.{flat_map, AllByRecursion}
-use Rattle.std.proofs.lemmas.List.{drop_at, drop-drop, length-replicate, length-drop, drop-replicate, drop-append-le, replicate-append-replicate, take_all}
+use Rattle.std.proofs.lemmas.List.{drop_at, drop-drop, length-replicate, length-drop, drop-replicate, drop-append-le, replicate-append-replicate}
 use Rattle.values.specs.Bytes.{over}
 use Rattle.values.proofs.Over.{over_behind, over_front_part}
 use Rattle.stores.specs.Contents.{Entry}

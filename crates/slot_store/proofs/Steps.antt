@@ -1,20 +1,18 @@
 -- What filling, freeing and zeroing slots makes of the contents of a slot store.
-use Rattle.std.proofs.Common.{◌≡◌, ℕ, suc, ◌+◌, ◌-◌, ◌*◌, ◌^◌, ◌<◌, ◌≤◌, Bool, true, false, List, [], ◌∷◌, ◌++◌, length, get_or, drop, set, replicate, is_some, Some, None, Option, sym, refl, ap, ◌∙◌, subst, ap₂, zero-add, arith, length-append, MatchOption}
+use Rattle.std.proofs.Common.{◌≡◌, ℕ, suc, ◌+◌, ◌-◌, ◌*◌, ◌^◌, ◌<◌, ◌≤◌, true, false, List, [], ◌∷◌, ◌++◌, length, get_or, drop, set, replicate, is_some, Some, None, Option, sym, ap, ◌∙◌, subst, ap₂, arith}
 use Rattle.std.specs.Option.{option_map}
-use Rattle.std.specs.List.{flat_map, AllByRecursion}
+use Rattle.std.specs.List.{AllByRecursion}
 use Rattle.std.proofs.ByRecursion.{All-set, All-weaker}
 use Rattle.std.proofs.lemmas.List.{length-set, length-replicate, get_or-set_same, set-set, set-get_or}
 use Rattle.std.proofs.lemmas.Bool.{cond-true, and_from, le-leb}
 use Rattle.values.specs.Bytes.{over}
 use Rattle.stores.specs.Contents.{Entry, entry, Contents, emptied, appended, dropped, block_of, without}
-use Rattle.stores.specs.Laws.{BlockSized, Lawful, Rising}
+use Rattle.stores.specs.Laws.{BlockSized, Lawful}
 use Rattle.stores.proofs.Entries.{Lacks, nothing_found, rising_all_up_to, lacks_if_below}
-use Rattle.stores.proofs.Kept.{Admitted, Lawful-appended, Lawful-dropped, Lawful-emptied}
 use Rattle.entry_layout.specs.Layout.{block_at, capacity_of, entry_bytes, entry_in, with_entry, zeroed}
-use Rattle.entry_layout.proofs.EntryBytes.{length-entry}
 use Rattle.slot_store.specs.Ranked.{placed, ranked}
-use Rattle.slot_store.specs.Search.{Finds, going_round, holds}
-use Rattle.slot_store.specs.Slots.{slot_bytes, slotted, slots_in, slots_of, tail_of, zeroed_slots}
+use Rattle.slot_store.specs.Search.{going_round, holds}
+use Rattle.slot_store.specs.Slots.{slotted, slots_of, tail_of, zeroed_slots}
 use Rattle.slot_store.proofs.Placing.{InSlot, length-placed, all_in_slots, placed_last, found_placed, without_placed, ranked_at, others_lack, none_found, all_taken, ranked_none, holding_entry}
 use Rattle.slot_store.proofs.Searches.{round_none, round_some, free_slot}
 use Rattle.slot_store.proofs.SlotBytes.{Storable, Relaid, relaid, count_of_slots, slot_at, slot_filled, slot_freed, slots_within, free_slots_bytes, free_slots_storable}

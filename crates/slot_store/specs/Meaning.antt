@@ -1,5 +1,5 @@
 -- What a slot store means, what it keeps true of itself, and which bytes it holds after each call.
-use Rattle.std.specs.Prelude.{◌≡◌, ℕ, suc, ◌*◌, ◌<◌, true, List, ◌++◌, length, replicate, Some, None, slice_index_or, slice_set}
+use Rattle.std.specs.Prelude.{◌≡◌, ℕ, suc, true, length, Some, None, slice_index_or, slice_set}
 use Rattle.stores.specs.Contents.{Entry, Contents}
 use Rattle.stores.specs.Laws.{Lawful}
 use Rattle.entry_layout.specs.Layout.{capacity_of}

@@ -1,5 +1,5 @@
 -- What the calls of a store make of its contents.
-use Rattle.std.proofs.Common.{◌≡◌, ℕ, suc, ◌^◌, ◌<◌, ◌≤◌, Bool, true, false, cond, not, ◌||◌, eqb, ltb, leb, ◌≢◌, List, [], ◌∷◌, ◌++◌, length, is_some, Some, None, Ok, Err, Result, sym, refl, ap, ◌∙◌, subst, inl, inr, arith, lit<, lit≤}
+use Rattle.std.proofs.Common.{◌≡◌, ℕ, ◌^◌, ◌<◌, ◌≤◌, true, not, ◌||◌, eqb, ltb, leb, List, length, is_some, Some, None, Ok, Err, Result, sym, refl, ap, ◌∙◌, subst, inl, inr, arith, lit<, lit≤}
 use Rattle.std.proofs.ByRecursion.{All-push}
 use Rattle.std.proofs.lemmas.List.{length_push}
 use Rattle.std.proofs.lemmas.Bool.{cases_Bool, or_parts, eqb-false, ltb-false, leb-false}
@@ -11,8 +11,8 @@ use Rattle.values.proofs.Answers.{accepted, also_accepted, also_refused}
 use Rattle.values.proofs.Cases.{accepted_is_not_refused}
 use Rattle.stores.specs.Calls.{Appends, append_tests, admission, appending, dropping}
 use Rattle.stores.specs.Contents.{Entry, entry, Contents, emptied, appended, dropped, block_of, without}
-use Rattle.stores.specs.Laws.{Rising, BlockSized, Lawful, OthersStay, EntriesAreKept}
-use Rattle.stores.proofs.Entries.{Lacks, nothing_found, found_at_end, found_before_end, found_without, All-without, length_without_within, rising_at_end, Rising-without, lacks_if_below, Lacks-without}
+use Rattle.stores.specs.Laws.{BlockSized, Lawful, OthersStay, EntriesAreKept}
+use Rattle.stores.proofs.Entries.{nothing_found, found_at_end, found_before_end, found_without, All-without, length_without_within, rising_at_end, Rising-without, lacks_if_below, Lacks-without}
 
 -- What an accepted append tells.
 pub record Admitted (number : ℕ) (block : List ℕ) (held last capacity : ℕ) : Type 0 where

@@ -1,5 +1,5 @@
 -- Bytes as one number, the first most significant, and back.
-use Rattle.std.proofs.Common.{◌≡◌, ℕ, zero, suc, ◌+◌, ◌*◌, ◌/◌, ◌%◌, ◌^◌, ◌<◌, ◌≤◌, List, [], ◌∷◌, ◌++◌, length, get_or, drop, sym, refl, ap, ◌∙◌, ap₂, mul-le-mul_right, mul_assoc, mul_comm, add-mul, suc-add, pow-suc, zero-add, div-one, add-one, arith, lit<, pow-add}
+use Rattle.std.proofs.Common.{◌≡◌, ℕ, zero, suc, ◌+◌, ◌*◌, ◌/◌, ◌%◌, ◌^◌, ◌<◌, ◌≤◌, List, [], ◌∷◌, ◌++◌, get_or, drop, sym, refl, ap, ◌∙◌, ap₂, mul-le-mul_right, mul_assoc, mul_comm, add-mul, suc-add, pow-suc, zero-add, div-one, add-one, arith, lit<, pow-add}
 use native.Mathlib.Nat.{pow-le-pow_right, one-le-pow, mul-add-div_right, mul-add-mod_self_right, zero-div, div-eq_of_lt}
 use Rattle.values.specs.BigEndian.{big_endian, bytes_of}
 

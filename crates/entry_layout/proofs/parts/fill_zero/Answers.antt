@@ -1,4 +1,4 @@
-use Rattle.std.proofs.Common.{◌≡◌, ℕ, ◌-◌, replicate, sym, ap, ◌∙◌, arith, rules}
+use Rattle.std.proofs.Common.{ℕ, ◌-◌, replicate, sym, ap, ◌∙◌, rules}
 use Rattle.std.proofs.lemmas.List.{length-replicate, places}
 use Rattle.std.proofs.lemmas.Bool.{cond-true, and_from, le-leb}
 use Rattle.values.proofs.Over.{part_written}

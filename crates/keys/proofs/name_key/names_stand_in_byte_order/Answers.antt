@@ -1,4 +1,4 @@
-use Rattle.std.proofs.Common.{◌≡◌, sym, ap}
+use Rattle.std.proofs.Common.{sym, ap}
 use Rattle.std.specs.Ordering.{ordering_then}
 use Rattle.names.specs.ByteOrder.{number_order}
 use Rattle.names.proofs.ByteOrders.{packed_order_lem}

@@ -1,4 +1,4 @@
-use Rattle.std.proofs.Common.{◌≡◌, ℕ, ◌*◌, None, sym, ap, ◌∙◌, arith}
+use Rattle.std.proofs.Common.{None, sym, ap, ◌∙◌, arith}
 use Rattle.slot_store.specs.Search.{holds}
 use Rattle.slot_store.specs.Slots.{slots_in}
 use Rattle.slot_store.proofs.Searches.{passed_over, stopped_at, ran_out}

@@ -1,5 +1,5 @@
-use Rattle.std.proofs.Common.{◌≡◌, ℕ, ◌<◌, List, length, take, drop, IfSome, Some, None, Option, sym, ap, ◌∙◌, ap₂, arith}
-use Rattle.slot_store.specs.Search.{first_place, going_round, holds, or_else}
+use Rattle.std.proofs.Common.{◌≡◌, ℕ, ◌<◌, List, take, drop, IfSome, Some, None, Option, sym, ap, ◌∙◌, arith}
+use Rattle.slot_store.specs.Search.{first_place, going_round, holds}
 use Rattle.slot_store.specs.Slots.{slots_in}
 use Rattle.slot_store.proofs.Searches.{round_some, first_of_two, second_of_two}
 use Rattle.slot_store.proofs.SlotBytes.{count_of_slots, fewer_slots}

@@ -1,7 +1,5 @@
-use Rattle.std.proofs.Common.{◌≡◌, sym, ◌∙◌, ap₂, arith}
-use Rattle.std.proofs.lemmas.Bool.Decides.{nat_tests}
+use Rattle.std.proofs.Common.{sym, ◌∙◌, ap₂}
 use Rattle.std.specs.Ordering.{ordering_then}
-use Rattle.names.specs.ByteOrder.{number_order}
 use Rattle.names.proofs.ByteOrders.{packed_order_lem}
 use Rattle.names.proofs.name.Name.compare.Goals as goal
 

@@ -1,8 +1,6 @@
-use Rattle.std.proofs.Common.{◌≡◌, drop, Some, None, refl}
+use Rattle.std.proofs.Common.{Some, None, refl}
 use Rattle.stores.proofs.Kept.{drop_accepted}
 use Rattle.stores.specs.Contents.{Entry, entry}
-use Rattle.entry_layout.specs.Layout.{entry_in}
-use Rattle.packed_log.specs.Log.{place_from}
 use Rattle.packed_log.specs.Meaning.{contents_of, Sound}
 use Rattle.packed_log.proofs.Steps.{log_in, place_in_log, entry_in_log, entry_never_missing, log_dropped, drop_refused}
 use Rattle.packed_log.proofs.log.PackedLogStore.drop_entry.Goals as goal

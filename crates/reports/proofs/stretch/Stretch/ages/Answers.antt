@@ -1,4 +1,4 @@
-use Rattle.std.proofs.Common.{◌≡◌, ℕ, suc, ◌-◌, ◌^◌, ◌<◌, ◌≤◌, sym, arith}
+use Rattle.std.proofs.Common.{arith}
 use Rattle.reports.proofs.Counting.{no_row_above}
 use Rattle.reports.proofs.stretch.Stretch.ages.Goals as goal
 

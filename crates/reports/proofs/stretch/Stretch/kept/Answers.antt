@@ -1,4 +1,4 @@
-use Rattle.std.proofs.Common.{◌≡◌, refl, arith}
+use Rattle.std.proofs.Common.{refl, arith}
 use Rattle.reports.proofs.Counting.{count_next, count_at_end}
 use Rattle.reports.proofs.stretch.Stretch.kept.Goals as goal
 

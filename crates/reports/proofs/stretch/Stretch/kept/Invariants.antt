@@ -1,4 +1,4 @@
-use Rattle.std.proofs.Common.{◌≡◌, ℕ, ◌-◌, ◌≤◌}
+use Rattle.std.proofs.Common.{◌≡◌, ◌-◌, ◌≤◌}
 use Rattle.reports.specs.Counts.{kept_among}
 use Rattle.reports.proofs.stretch.Stretch.kept.Given as goal
 

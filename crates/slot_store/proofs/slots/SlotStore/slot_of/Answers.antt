@@ -1,4 +1,4 @@
-use Rattle.std.proofs.Common.{◌≡◌, ℕ, length, Some, ap, ◌∙◌, ap₂, rules}
+use Rattle.std.proofs.Common.{◌≡◌, ℕ, length, Some, ◌∙◌, ap₂, rules}
 use Rattle.entry_layout.specs.Layout.{capacity_of}
 use Rattle.slot_store.specs.Search.{going_round, holds, likely_slot}
 use Rattle.slot_store.specs.Slots.{slots_in, slots_of}

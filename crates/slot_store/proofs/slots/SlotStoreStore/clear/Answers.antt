@@ -1,4 +1,4 @@
-use Rattle.std.proofs.Common.{◌≡◌, ℕ, ◌*◌, length, sym, refl, ap, ◌∙◌, subst, arith}
+use Rattle.std.proofs.Common.{ℕ, ◌*◌, length, sym, refl, ap, ◌∙◌, subst, arith}
 use Rattle.stores.specs.Contents.{Contents}
 use Rattle.stores.specs.Laws.{Lawful}
 use Rattle.stores.proofs.Kept.{Lawful-emptied}

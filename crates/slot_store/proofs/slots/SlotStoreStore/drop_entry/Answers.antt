@@ -1,5 +1,4 @@
-use Rattle.std.proofs.Common.{◌≡◌, length, sym, refl, ap, ◌∙◌, subst, arith}
-use Rattle.stores.specs.Contents.{Contents}
+use Rattle.std.proofs.Common.{sym, refl, subst, arith}
 use Rattle.stores.specs.Laws.{Lawful}
 use Rattle.stores.proofs.Kept.{Lawful-dropped}
 use Rattle.slot_store.proofs.Steps.{drop_step, found_block, no_block_found}
