@@ -1,3 +1,4 @@
+-- Name keys with equal parts are equal: of these parts their order is made.
 use Rattle.std.specs.Prelude.{◌≡◌, ℕ}
 use Rattle.std.proofs.Common.{ap, ◌∙◌}
 use Rattle.keys.specs.declared.name_key.NameKey.{NameKey}

@@ -4,7 +4,7 @@ ghost use Rattle.values.specs.Answers.{answer};
 ghost use Rattle.policies.specs.Kept.{kept_by_halving};
 ghost use Rattle.policies.specs.Settings.{halving_setting};
 ghost use Rattle.policies.specs.Halving.{candidate};
-ghost use Rattle.std.proofs.Common.{rules, arith};
+ghost use Rattle.std.proofs.Common.{rules};
 
 use crate::policy::Policy;
 use values::moment::Moment;
@@ -57,11 +57,11 @@ impl Halving {
 impl Policy for Halving {
     ghost kept = { λ h. kept_by_halving h.reach };
 
-    ghost present = { first_of (Prim.search rules, Prim.grind (arith, Self.row.coded.inj)) };
+    ghost present = { Prim.search rules };
 
-    ghost lasting = { first_of (Prim.search rules, Prim.grind (arith, Self.row.coded.inj)) };
+    ghost lasting = { Prim.search rules };
 
-    ghost bounded = { first_of (Prim.search rules, Prim.grind (arith, Self.row.coded.inj)) };
+    ghost bounded = { Prim.search rules };
 
     fn keeps(&self, t: Moment, present: Moment) -> bool {
         let t = t.number();

@@ -3,7 +3,7 @@ ghost use Rattle.std.specs.Prelude.{◌≡◌, ◌≤◌};
 ghost use Rattle.values.specs.Answers.{answer};
 ghost use Rattle.policies.specs.Kept.{kept_by_window};
 ghost use Rattle.policies.specs.Settings.{window_setting};
-ghost use Rattle.std.proofs.Common.{rules, arith};
+ghost use Rattle.std.proofs.Common.{rules};
 
 use crate::policy::Policy;
 use values::moment::{LAST, Moment};
@@ -37,11 +37,11 @@ impl Window {
 impl Policy for Window {
     ghost kept = { λ w. kept_by_window w.length };
 
-    ghost present = { first_of (Prim.search rules, Prim.grind (arith, Self.row.coded.inj)) };
+    ghost present = { Prim.search rules };
 
-    ghost lasting = { first_of (Prim.search rules, Prim.grind (arith, Self.row.coded.inj)) };
+    ghost lasting = { Prim.search rules };
 
-    ghost bounded = { first_of (Prim.search rules, Prim.grind (arith, Self.row.coded.inj)) };
+    ghost bounded = { Prim.search rules };
 
     fn keeps(&self, t: Moment, present: Moment) -> bool {
         t.number() <= present.number() && present.number() - t.number() <= self.length
