@@ -1,6 +1,6 @@
+pub mod EqualNameKeys
 pub mod NameKeys
 pub mod Offsets
 pub mod Order
-pub mod Sees
 pub mod PartsOrder
-pub mod NameKeyOrderedLemmas
+pub mod Sees

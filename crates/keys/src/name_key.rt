@@ -6,7 +6,7 @@ ghost use Rattle.keys.specs.NameKeys.{name_key_order, NamesInByteOrder, packed_o
 ghost use Rattle.names.specs.ByteOrder.{number_order};
 ghost use Rattle.keys.specs.declared.name_key.NameKey.{NameKey};
 ghost use Rattle.keys.specs.PartsOrder.{parts_order_lawful, number_order_lawful};
-ghost use Rattle.keys.specs.NameKeyOrderedLemmas.{same_key, same_pair};
+ghost use Rattle.keys.specs.EqualNameKeys.{same_key, same_pair};
 
 use crate::key::Key;
 use crate::order::Ordered;

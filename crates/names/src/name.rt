@@ -1,9 +1,8 @@
 //! Names of files and directories.
-ghost use Rattle.std.specs.Prelude.{◌≡◌, true, length, is_ok, IfOk, if◌then◌else◌};
+ghost use Rattle.std.specs.Prelude.{◌≡◌, true, is_ok, IfOk, if◌then◌else◌};
 ghost use Rattle.values.specs.Answers.{answer};
 ghost use Rattle.values.specs.Bytes.{over_front};
 ghost use Rattle.names.specs.ByteOrder.{byte_order};
-ghost use Rattle.names.specs.NameRule.{is_name};
 ghost use Rattle.names.specs.Packing.{spelled, is_packed, packing, repacking, unpacking};
 
 use crate::name_rule::{MAX_NAME_LENGTH, is_name};

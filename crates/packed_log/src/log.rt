@@ -1,6 +1,6 @@
 //! The packed log.
 ghost use Rattle.std.specs.Prelude.{◌≡◌, ◌*◌, ◌++◌, length, drop, replicate, OnErr};
-ghost use Rattle.stores.specs.Calls.{Appends, Reads, Drops};
+ghost use Rattle.stores.specs.Calls.{Appends, Drops};
 ghost use Rattle.stores.specs.Contents.{emptied};
 ghost use Rattle.entry_layout.specs.Layout.{capacity_of};
 ghost use Rattle.packed_log.specs.Log.{packed, room};

@@ -1,5 +1,4 @@
 //! Any of the policies, chosen while the program runs.
-ghost use Rattle.std.specs.Prelude.{◌≡◌};
 ghost use Rattle.policies.specs.Retentions.{kept_by};
 ghost use Rattle.std.proofs.Common.{rules};
 

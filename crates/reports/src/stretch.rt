@@ -2,7 +2,7 @@
 ghost use Rattle.std.specs.Prelude.{◌≡◌, ◌+◌, ◌-◌, ◌<◌, ◌≤◌};
 ghost use Rattle.std.specs.Option.{option_map};
 ghost use Rattle.reports.specs.Counts.{count_kept, one_if};
-ghost use Rattle.reports.specs.Marks.{mark_of, stretch_mark};
+ghost use Rattle.reports.specs.Marks.{stretch_mark};
 ghost use Rattle.reports.specs.Stretches.{column_width, column_of, ages_of, ColumnsHoldEachOnce, RowsHoldEachOnce};
 
 use crate::mark::Mark;

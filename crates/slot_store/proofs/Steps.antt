@@ -138,7 +138,7 @@ drop_step bytes after last slot number laid l h t w =
       fewer = ap length rank ∙ length-placed e (ranked new) ∙ ap (λ (ss : List (Option Entry)). suc (length (ranked ss))) (sym again.slots);
     }
 
--- AllByRecursion slots zeroed.
+-- All slots zeroed.
 
 pub record Cleared (bytes after : List ℕ) : Type 0 where
   pub contents : contents_in after 0 ≡ emptied (capacity_of (length bytes))

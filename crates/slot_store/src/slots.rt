@@ -1,6 +1,6 @@
 //! The slot store.
 ghost use Rattle.std.specs.Prelude.{◌≡◌, ◌<◌, length, IfSome, Some, None, OnErr, OnOk};
-ghost use Rattle.stores.specs.Calls.{Appends, Reads, Drops};
+ghost use Rattle.stores.specs.Calls.{Appends, Drops};
 ghost use Rattle.stores.specs.Contents.{emptied, entry};
 ghost use Rattle.entry_layout.specs.Layout.{capacity_of};
 ghost use Rattle.slot_store.specs.Meaning.{contents_of, Sound, Filled, Freed, Zeroed, lawful_of};

@@ -1,5 +1,5 @@
 -- Lists of bytes: tests, and writes over a part.
-use Rattle.std.specs.Prelude.{ℕ, suc, ◌+◌, Bool, true, cond, ◌&&◌, List, [], ◌∷◌, ◌++◌, length, take, drop, nat_eq}
+use Rattle.std.specs.Prelude.{ℕ, suc, ◌+◌, Bool, true, cond, ◌&&◌, List, [], ◌∷◌, ◌++◌, length, take, drop, ◌==◌}
 
 -- Whether every byte passes a test.
 abbrev pub every : (test : ℕ → Bool) → List ℕ → Bool
@@ -13,7 +13,7 @@ place_where test (b ∷ bs) = cond (test b) 0 (suc (place_where test bs))
 
 -- The place of the first such byte, or the length where there is none.
 abbrev pub place_of : (byte : ℕ) → List ℕ → ℕ
-place_of byte = place_where (λ b. nat_eq b byte)
+place_of byte = place_where (λ b. b == byte)
 
 -- A buffer with bytes written over its front.
 abbrev pub over_front : (bytes buffer : List ℕ) → List ℕ
