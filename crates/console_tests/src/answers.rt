@@ -17,9 +17,7 @@ pub fn expect(
     line: &[u8],
     text: &str,
 ) -> Result<(), Fail> {
-    let answer = said(heap, session, line)?;
-    assert_eq!(rt; answer.as_str(), text);
-    Ok(())
+    expect_since(rt, heap, session, line, text, "what the session says")
 }
 
 /// The same, with a note on why it should.
