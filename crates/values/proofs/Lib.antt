@@ -1,5 +1,5 @@
 pub mod Answers
 pub mod BigEndian
-pub mod ByteTests
 pub mod Cases
 pub mod Over
+pub mod Places

@@ -12,25 +12,29 @@ pub const MAX_BLOCK_NUMBER: u8 = 63;
 pub const MAX_BLOCK_LENGTH: usize = 64;
 
 /// The place of a block in its file, from 0 to [`MAX_BLOCK_NUMBER`].
-#[derive(Clone, Copy, PartialEq, Eq, Debug)]
+#[derive(Clone, Copy, PartialEq, Eq, PartialOrd, Ord, Debug)]
 pub struct BlockNumber {
     value: u8,
     ghost within: { value ≤ 63 },
 }
 
 impl BlockNumber {
-    pub fn new(value: u32) -> Result<BlockNumber, Refusal>
-        ensures { answer (λ b. b.value) result ≡ block_number_at value }
-    {
-        if value > MAX_BLOCK_NUMBER as u32 {
-            return Err(Refusal::BlockNumberTooLarge);
-        }
-        Ok(BlockNumber { value: value as u8 })
-    }
-
     pub fn number(self) -> u8
         ensures { result ≡ self.value }
     {
         self.value
+    }
+}
+
+impl TryFrom<u32> for BlockNumber {
+    type Error = Refusal;
+
+    ghost try_from_gives = { λ value r. answer (λ b. b.value) r ≡ block_number_at value };
+
+    fn try_from(value: u32) -> Result<BlockNumber, Refusal> {
+        if value > u32::from(MAX_BLOCK_NUMBER) {
+            return Err(Refusal::BlockNumberTooLarge);
+        }
+        Ok(BlockNumber { value: value as u8 })
     }
 }

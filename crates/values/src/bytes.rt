@@ -7,10 +7,8 @@ pub fn place_of(byte: u8, bytes: &[u8]) -> usize
     ensures place { result ≡ place_of byte bytes.now }
     ensures within { result ≤ length bytes.now }
 {
-    for (place, other) in bytes.iter().enumerate() {
-        if *other == byte {
-            return place;
-        }
-    }
-    bytes.len()
+    bytes
+        .iter()
+        .position(|other| *other == byte)
+        .unwrap_or(bytes.len())
 }

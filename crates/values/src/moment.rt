@@ -10,7 +10,7 @@ use crate::refusal::Refusal;
 pub const LAST: u32 = 1_048_575;
 
 /// A point of a project's history, from 0 to [`LAST`].
-#[derive(Clone, Copy, PartialEq, Eq, Debug)]
+#[derive(Clone, Copy, PartialEq, Eq, PartialOrd, Ord, Debug)]
 pub struct Moment {
     value: u32,
     ghost within: { value ≤ 1048575 },
@@ -19,16 +19,6 @@ pub struct Moment {
 impl Moment {
     /// The moment at which every vault begins.
     pub const ZERO: Moment = Moment { value: 0 };
-
-    /// The moment with this number.
-    pub fn new(value: u32) -> Result<Moment, Refusal>
-        ensures { answer (λ m. m.value) result ≡ moment_at value }
-    {
-        if value > LAST {
-            return Err(Refusal::BeyondLimit);
-        }
-        Ok(Moment { value })
-    }
 
     pub fn number(self) -> u32
         ensures { result ≡ self.value }
@@ -46,5 +36,19 @@ impl Moment {
         Some(Moment {
             value: self.value + 1,
         })
+    }
+}
+
+/// The moment with this number.
+impl TryFrom<u32> for Moment {
+    type Error = Refusal;
+
+    ghost try_from_gives = { λ value r. answer (λ m. m.value) r ≡ moment_at value };
+
+    fn try_from(value: u32) -> Result<Moment, Refusal> {
+        if value > LAST {
+            return Err(Refusal::BeyondLimit);
+        }
+        Ok(Moment { value })
     }
 }

@@ -2,35 +2,60 @@
 ghost use Rattle.std.specs.Prelude.{◌≡◌};
 ghost use Rattle.values.specs.Refusals.{number_of};
 
-use std::fmt;
+use thiserror::Error;
 
-/// The reasons for turning a call down, in the order of their numbers.
-#[derive(Clone, Copy, PartialEq, Eq, Debug)]
+/// The reasons for turning a call down, by the numbers under which callers know them. A refusal
+/// shows its number and its reason, as `24 number beyond its limit`.
+#[derive(Clone, Copy, PartialEq, Eq, Debug, Error)]
 pub enum Refusal {
-    InvalidName,
-    BlockNumberTooLarge,
-    InvalidLength,
-    BufferTooShort,
-    MomentNotKept,
-    NoSuchDirectory,
-    NoSuchName,
-    NoSuchFile,
-    NoSuchBlock,
-    DirectoryNotEmpty,
-    NameInUse,
-    DirectoryWouldMove,
-    FileElsewhere,
-    ObjectsExhausted,
-    MomentsExhausted,
-    NamesFull,
-    BlocksFull,
-    EntryNotAboveLast,
-    StoreFull,
-    NoSuchEntry,
-    MomentTaken,
-    HistoryFull,
-    NoSuchVersion,
-    BeyondLimit,
+    #[error("1 not a valid name")]
+    InvalidName = 1,
+    #[error("2 block number above 63")]
+    BlockNumberTooLarge = 2,
+    #[error("3 not 1 to 64 bytes")]
+    InvalidLength = 3,
+    #[error("4 buffer too short")]
+    BufferTooShort = 4,
+    #[error("5 moment above now or not kept")]
+    MomentNotKept = 5,
+    #[error("6 no such directory")]
+    NoSuchDirectory = 6,
+    #[error("7 no such name")]
+    NoSuchName = 7,
+    #[error("8 no such file")]
+    NoSuchFile = 8,
+    #[error("9 no such block")]
+    NoSuchBlock = 9,
+    #[error("10 directory not empty")]
+    DirectoryNotEmpty = 10,
+    #[error("11 name in use")]
+    NameInUse = 11,
+    #[error("12 a directory stays in its directory")]
+    DirectoryWouldMove = 12,
+    #[error("13 file stands under another name")]
+    FileElsewhere = 13,
+    #[error("14 all object numbers given")]
+    ObjectsExhausted = 14,
+    #[error("15 all moments spent")]
+    MomentsExhausted = 15,
+    #[error("16 name history full")]
+    NamesFull = 16,
+    #[error("17 block versions full")]
+    BlocksFull = 17,
+    #[error("18 entry number not above the last")]
+    EntryNotAboveLast = 18,
+    #[error("19 store full")]
+    StoreFull = 19,
+    #[error("20 no such entry")]
+    NoSuchEntry = 20,
+    #[error("21 moment too low or already used for this key")]
+    MomentTaken = 21,
+    #[error("22 history full")]
+    HistoryFull = 22,
+    #[error("23 no such version")]
+    NoSuchVersion = 23,
+    #[error("24 number beyond its limit")]
+    BeyondLimit = 24,
 }
 
 impl Refusal {
@@ -38,70 +63,6 @@ impl Refusal {
     pub fn number(self) -> u8
         ensures { result ≡ number_of self }
     {
-        match self {
-            Refusal::InvalidName => 1,
-            Refusal::BlockNumberTooLarge => 2,
-            Refusal::InvalidLength => 3,
-            Refusal::BufferTooShort => 4,
-            Refusal::MomentNotKept => 5,
-            Refusal::NoSuchDirectory => 6,
-            Refusal::NoSuchName => 7,
-            Refusal::NoSuchFile => 8,
-            Refusal::NoSuchBlock => 9,
-            Refusal::DirectoryNotEmpty => 10,
-            Refusal::NameInUse => 11,
-            Refusal::DirectoryWouldMove => 12,
-            Refusal::FileElsewhere => 13,
-            Refusal::ObjectsExhausted => 14,
-            Refusal::MomentsExhausted => 15,
-            Refusal::NamesFull => 16,
-            Refusal::BlocksFull => 17,
-            Refusal::EntryNotAboveLast => 18,
-            Refusal::StoreFull => 19,
-            Refusal::NoSuchEntry => 20,
-            Refusal::MomentTaken => 21,
-            Refusal::HistoryFull => 22,
-            Refusal::NoSuchVersion => 23,
-            Refusal::BeyondLimit => 24,
-        }
-    }
-
-    // A few words on what was wrong with the call.
-    fn reason(self) -> &'static str {
-        match self {
-            Refusal::InvalidName => "not a valid name",
-            Refusal::BlockNumberTooLarge => "block number above 63",
-            Refusal::InvalidLength => "not 1 to 64 bytes",
-            Refusal::BufferTooShort => "buffer too short",
-            Refusal::MomentNotKept => "moment above now or not kept",
-            Refusal::NoSuchDirectory => "no such directory",
-            Refusal::NoSuchName => "no such name",
-            Refusal::NoSuchFile => "no such file",
-            Refusal::NoSuchBlock => "no such block",
-            Refusal::DirectoryNotEmpty => "directory not empty",
-            Refusal::NameInUse => "name in use",
-            Refusal::DirectoryWouldMove => "a directory stays in its directory",
-            Refusal::FileElsewhere => "file stands under another name",
-            Refusal::ObjectsExhausted => "all object numbers given",
-            Refusal::MomentsExhausted => "all moments spent",
-            Refusal::NamesFull => "name history full",
-            Refusal::BlocksFull => "block versions full",
-            Refusal::EntryNotAboveLast => "entry number not above the last",
-            Refusal::StoreFull => "store full",
-            Refusal::NoSuchEntry => "no such entry",
-            Refusal::MomentTaken => "moment too low or already used for this key",
-            Refusal::HistoryFull => "history full",
-            Refusal::NoSuchVersion => "no such version",
-            Refusal::BeyondLimit => "number beyond its limit",
-        }
-    }
-}
-
-/// A refusal shows its number and its reason, as `24 number beyond its limit`.
-impl fmt::Display for Refusal {
-    fn fmt<W: fmt::Write>(&self, f: &mut fmt::Formatter<W>) -> fmt::Result {
-        let number = self.number();
-        let reason = self.reason();
-        write!(f, "{number} {reason}")
+        self as u8
     }
 }
