@@ -1,7 +1,7 @@
 -- A packed name spells its bytes again.
-use Rattle.std.proofs.Common.{◌≡◌, ℕ, zero, suc, ◌-◌, ◌≤◌, Bool, true, false, ◌&&◌, eqb, List, [], ◌∷◌, ◌++◌, length, take, drop, sym, refl, ap, ◌∙◌, ap₂, arith}
+use Rattle.std.proofs.Common.{◌≡◌, ℕ, zero, suc, ◌+◌, ◌≤◌, Bool, true, false, not, cond, ◌&&◌, eqb, List, [], ◌∷◌, ◌++◌, length, take, drop, sym, refl, ap, ◌∙◌, ap₂, arith}
 use Rattle.std.proofs.lemmas.List.{length-take-le}
-use Rattle.std.proofs.lemmas.Bool.{and_parts, and_from, and_left, cond-false, eqb-true, eq-eqb, ne_eqb}
+use Rattle.std.proofs.lemmas.Bool.{and_parts, and_from, and_left, eqb-true, eq-eqb, ne_eqb}
 use Rattle.values.specs.Bytes.{place_of}
 use Rattle.names.specs.NameRule.{is_name}
 use Rattle.names.specs.Packing.{high_of, low_of, before_zero, pair_bytes, spelled, is_packed}
@@ -16,14 +16,19 @@ before_zero_none : (k : ℕ) → before_zero (padded k []) ≡ []
 before_zero_none zero = refl
 before_zero_none (suc k) = refl
 
+before_zero_behind : (b : ℕ) (bs : List ℕ) → eqb b 0 ≡ false → before_zero (b ∷ bs) ≡ b ∷ before_zero bs
+before_zero_behind b bs e =
+    let s : 1 + place_of 0 bs ≡ suc (place_of 0 bs) = omega arith in
+    ap (λ (zero : Bool). take (cond (not zero) (1 + place_of 0 bs) 0) (b ∷ bs)) e ∙ ap (λ (n : ℕ). take n (b ∷ bs)) s
+
 -- Zeros behind bytes that are not zero are cut off again.
 before_zero_padded : (k : ℕ) (bs : List ℕ) → length bs ≤ k → Nonzero bs → before_zero (padded k bs) ≡ bs
 before_zero_padded k [] h m = before_zero_none k
 before_zero_padded zero (b ∷ bs) h m = absurd (omega arith)
 before_zero_padded (suc k) (b ∷ bs) h m =
     let nonzero : eqb b 0 ≡ false = ne_eqb b 0 (λ e. omega (arith, m.0)) in
-    ap (λ (n : ℕ). take n (b ∷ padded k bs)) (cond-false (eqb b 0) 0 (suc (place_of 0 (padded k bs))) nonzero)
-    ∙ ap (λ (xs : List ℕ). b ∷ xs) (before_zero_padded k bs (omega arith) m.2)
+    let rest = before_zero_padded k bs (omega arith) m.2 in
+    before_zero_behind b (padded k bs) nonzero ∙ ap (λ (xs : List ℕ). b ∷ xs) rest
 
 pub spelled_of_name : (bs : List ℕ) → is_name bs ≡ true → spelled (high_of bs) (low_of bs) ≡ bs
 unfolding spelled pair_bytes
@@ -56,16 +61,12 @@ packed_parts high low e =
     (p.0, eqb-true _ _ q.0, eqb-true _ _ q.1)
 
 -- The front of the sixteen bytes, up to the first zero, is the name.
-pub spelled_front : (n high low : ℕ) (bs : List ℕ) → bs ≡ pair_bytes high low → n ≡ place_of 0 bs → take (n - 0) bs ≡ spelled high low
+pub spelled_front : (n high low : ℕ) (bs : List ℕ) → bs ≡ pair_bytes high low → n ≡ place_of 0 bs → take n bs ≡ spelled high low
 unfolding spelled
-spelled_front n high low bs e f =
-    let z : n - 0 ≡ place_of 0 bs = omega arith in
-    ap (λ (k : ℕ). take k bs) z ∙ ap before_zero e
+spelled_front n high low bs e f = ap (λ (k : ℕ). take k bs) f ∙ ap before_zero e
 
 pub spelled_length : (n high low : ℕ) (bs : List ℕ) → bs ≡ pair_bytes high low → n ≡ place_of 0 bs → n ≤ length bs → n ≡ length (spelled high low)
-spelled_length n high low bs e f h =
-    let z : n - 0 ≡ n = omega arith in
-    sym (length-take-le n bs h) ∙ ap (λ (k : ℕ). length (take k bs)) (sym z) ∙ ap length (spelled_front n high low bs e f)
+spelled_length n high low bs e f h = sym (length-take-le n bs h) ∙ ap length (spelled_front n high low bs e f)
 
 -- The test of a pair, made on the bytes that it spells: they are no name, or they are and the test goes on.
 pub unpacked_if_no_name : (bs : List ℕ) (high low : ℕ) → bs ≡ spelled high low → false ≡ is_name bs → false ≡ is_packed high low

@@ -3,4 +3,4 @@
 
 pub mod name;
 pub mod name_rule;
-mod packing;
+pub mod packed_name;

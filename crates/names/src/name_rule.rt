@@ -9,20 +9,13 @@ pub const MAX_NAME_LENGTH: usize = 16;
 fn is_name_byte(byte: u8) -> bool
     ensures { result ≡ is_name_byte byte }
 {
-    byte >= 0x21 && byte <= 0x7E && byte != b'/'
+    byte.is_ascii_graphic() && byte != b'/'
 }
 
 /// Whether the bytes are a name.
 pub fn is_name(bytes: &[u8]) -> bool
     ensures { result ≡ is_name bytes.now }
 {
-    if bytes.is_empty() || bytes.len() > MAX_NAME_LENGTH {
-        return false;
-    }
-    for byte in bytes {
-        if !is_name_byte(*byte) {
-            return false;
-        }
-    }
-    true
+    let fits = (1..=MAX_NAME_LENGTH).contains(&bytes.len());
+    fits && bytes.iter().all(|byte| is_name_byte(*byte))
 }

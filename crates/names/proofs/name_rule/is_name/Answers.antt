@@ -1,19 +1,13 @@
-use Rattle.std.proofs.Common.{◌≡◌, true, sym, ap, ◌∙◌, arith, take_all}
+use Rattle.std.proofs.Common.{arith, rules}
 use Rattle.std.proofs.lemmas.Bool.Decides.{nat_tests}
-use Rattle.values.specs.Bytes.{every}
+use Rattle.std.proofs.lemmas.Iterator.{YieldsList-from_slice}
+use Rattle.std.proofs.lemmas.Iterator.Search.{all_from_yields_List}
+use borrow.Author.Tests.{tests}
 use Rattle.names.specs.NameRule.{is_name_byte}
-use Rattle.values.proofs.ByteTests.{every_and_next, not_every}
 use Rattle.names.proofs.name_rule.is_name.Goals as goal
 
-pub returns-then-not-is_name_byte : goal.returns-then-not-is_name_byte
-returns-then-not-is_name_byte c =
-    let e = not_every is_name_byte c.loop-byte.byte-index c.args.bytes.now c.loop-byte-test.true (sym c.if-not-is_name_byte.ensures) in
-    grind (arith, nat_tests)
-
-pub loop-byte-preserved : goal.loop-byte-preserved
-loop-byte-preserved c = every_and_next is_name_byte _ _ c.loop-byte-test.true c.loop-byte.invariant (sym c.if-not-is_name_byte.ensures)
-
-pub returns : goal.returns
-returns c =
-    let e : every is_name_byte c.args.bytes.now ≡ true = ap (every is_name_byte) (sym (take_all _ _ c.loop-byte-test.false)) ∙ c.loop-byte.invariant in
+pub returns-then-fits : goal.returns-then-fits
+returns-then-fits c =
+    let e = all_from_yields_List is_name_byte _ _ c.all.result c.all.ensures.ran
+    (YieldsList-from_slice c.args.bytes.now c.iter.ensures.rest) (λ x b q k. search (rules, tests)) in
     grind (arith, nat_tests)
