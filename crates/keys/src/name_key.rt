@@ -1,59 +1,50 @@
 //! Name keys: the places of names.
-ghost use Rattle.std.specs.Prelude.{◌≡◌, ℕ};
+ghost use Rattle.std.specs.Prelude.{◌≡◌};
 ghost use Rattle.values.specs.Answers.{answer};
 ghost use Rattle.names.specs.Packing.{repacking};
-ghost use Rattle.keys.specs.NameKeys.{name_key_order, NamesInByteOrder, packed_order};
-ghost use Rattle.names.specs.ByteOrder.{number_order};
-ghost use Rattle.keys.specs.declared.name_key.NameKey.{NameKey};
-ghost use Rattle.keys.specs.PartsOrder.{parts_order_lawful, number_order_lawful};
-ghost use Rattle.keys.specs.EqualNameKeys.{same_key, same_pair};
+ghost use Rattle.keys.specs.NameKeys.{name_key_order, NamesInByteOrder};
+ghost use Rattle.std.proofs.Common.{rules};
 
 use crate::key::Key;
 use crate::order::Ordered;
 use names::name::Name;
-use std::cmp::Ordering;
+use names::packed_name::PackedName;
 use values::object::Object;
 use values::refusal::Refusal;
 
-/// The place of a name: a directory and a name, packed into two numbers. Name keys stand in order
-/// of their directories, and within a directory in byte order of their names.
-#[derive(Clone, Copy, PartialEq, Eq, Debug)]
+/// The place of a name: a directory and a packed name. Name keys stand in order of their
+/// directories, and within a directory in byte order of their names.
+#[derive(Clone, Copy, PartialEq, Eq, PartialOrd, Ord, Debug)]
 pub struct NameKey {
     pub directory: u16,
-    pub high: u64,
-    pub low: u64,
+    pub name: PackedName,
 }
 
 impl NameKey {
     /// The key of a name in a directory.
     pub fn new(directory: u16, name: Name) -> NameKey
-        ensures { result ≡ record { directory = directory; high = name.high; low = name.low } }
+        ensures { result ≡ record { directory = directory; name = name.packed } }
     {
         NameKey {
             directory,
-            high: name.high(),
-            low: name.low(),
+            name: name.into(),
         }
     }
 
     /// The name in the key, made again from its packed form by a check.
     pub fn name(&self) -> Result<Name, Refusal>
-        ensures { answer (λ n. (n.high, n.low)) result ≡ repacking self.now.high self.now.low }
+        ensures { answer (λ n. (n.packed.high, n.packed.low)) result ≡ repacking self.now.name.high self.now.name.low }
     {
-        Name::from_packed(self.high, self.low)
+        Name::try_from(self.name)
     }
 }
 
 impl Ordered for NameKey {
     ghost order = { name_key_order };
 
-    ghost lawful = { parts_order_lawful {X = NameKey} (λ x. x.directory) (λ x. (x.high, x.low)) number_order packed_order same_key number_order_lawful
-        (parts_order_lawful {X = ℕ × ℕ} (λ n. n.0) (λ n. n.1) number_order number_order same_pair number_order_lawful number_order_lawful) };
+    ghost compares = { Prim.search rules };
 
-    fn compare(&self, other: &NameKey) -> Ordering {
-        let names = self.high.cmp(&other.high).then(self.low.cmp(&other.low));
-        self.directory.cmp(&other.directory).then(names)
-    }
+    ghost lawful = { Prim.search rules };
 }
 
 /// A name key leads to an object with its kind.

@@ -4,11 +4,10 @@ ghost use Rattle.std.proofs.Common.{rules};
 
 use crate::key::Key;
 use crate::order::Ordered;
-use std::cmp::Ordering;
 
 /// The place of a block: a file and a block number. Offsets stand in order of their files,
 /// and within a file in order of their block numbers.
-#[derive(Clone, Copy, PartialEq, Eq, Debug)]
+#[derive(Clone, Copy, PartialEq, Eq, PartialOrd, Ord, Debug)]
 pub struct Offset {
     pub file: u16,
     pub block: u8,
@@ -17,13 +16,9 @@ pub struct Offset {
 impl Ordered for Offset {
     ghost order = { offset_order };
 
-    ghost lawful = { Prim.search rules };
+    ghost compares = { Prim.search rules };
 
-    fn compare(&self, other: &Offset) -> Ordering {
-        self.file
-            .cmp(&other.file)
-            .then(self.block.cmp(&other.block))
-    }
+    ghost lawful = { Prim.search rules };
 }
 
 /// An offset leads to the number of the store entry that holds its block.

@@ -3,18 +3,15 @@ ghost use Rattle.std.specs.Prelude.{◌≡◌};
 ghost use Rattle.std.specs.declared.cmp.Ordering.{Ordering};
 ghost use Rattle.keys.specs.Order.{OrderLaws};
 
-use std::cmp::Ordering;
-
-/// A type whose values stand in one order.
-pub trait Ordered {
+/// A type whose values stand in one order, in which only equal values are the same.
+pub trait Ordered: Ord {
     /// How the first value stands to the second.
     ghost order: { Self → Self → Ordering };
 
-    /// Compares two values: less, the same or greater.
-    fn compare(&self, other: &Self) -> Ordering
-        ensures { result ≡ order self.now other.now };
+    /// Comparing two values answers how they stand.
+    ghost compares: { (x y : Self) → Self.cmp x y ≡ order x y };
 
     /// Only equal values are the same in order, turning a comparison round reverses its answer,
     /// and the order is transitive.
-    ghost lawful: { OrderLaws order };
+    ghost lawful: { OrderLaws Self.cmp };
 }

@@ -16,10 +16,7 @@ impl<K, V> Version<K, V> {
     pub fn is_seen_at(&self, moment: u32) -> bool
         ensures { result ≡ sees self.now.first self.now.end moment }
     {
-        let ended = match self.end {
-            Some(end) => end <= moment,
-            None => false,
-        };
+        let ended = self.end.is_some_and(|end| end <= moment);
         self.first <= moment && !ended
     }
 }
