@@ -1,52 +1,45 @@
 //! Keys and versions.
 use keys::name_key::NameKey;
 use keys::offset::Offset;
-use keys::order::Ordered;
 use keys::version::Version;
 use names::name::Name;
+use names::packed_name::PackedName;
 use std::cmp::Ordering;
+use std::test::Fail;
+use values::refusal::Refusal;
 
-// The key of a name, or a key of no name.
-fn key(directory: u16, bytes: &[u8]) -> NameKey {
-    match Name::new(bytes) {
-        Ok(name) => NameKey::new(directory, name),
-        Err(_) => NameKey {
-            directory,
-            high: 0,
-            low: 0,
-        },
-    }
-}
-
-fn holds_name(key: NameKey) -> bool {
-    key.name().is_ok()
+fn key(directory: u16, bytes: &[u8]) -> Result<NameKey, Refusal> {
+    Ok(NameKey::new(directory, Name::try_from(bytes)?))
 }
 
 #[test]
-fn name_keys(rt: HostRuntime) {
+fn name_keys(rt: HostRuntime) -> Result<(), Fail> {
     assert_eq!(rt;
-        key(1, b"b").compare(&key(2, b"a")),
+        key(1, b"b")?.cmp(&key(2, b"a")?),
         Ordering::Less,
         "by directory first"
     );
-    assert_eq!(rt; key(1, b"b").compare(&key(1, b"a.srt")), Ordering::Greater);
-    assert_eq!(rt; key(1, b"a").compare(&key(1, b"a.srt")), Ordering::Less);
-    assert_eq!(rt; key(1, b"a").compare(&key(1, b"a")), Ordering::Equal);
-    assert!(rt; holds_name(key(7, b"a.srt")));
-    assert!(rt; !holds_name(key(7, b"a/b")));
+    assert_eq!(rt; key(1, b"b")?.cmp(&key(1, b"a.srt")?), Ordering::Greater);
+    assert_eq!(rt; key(1, b"a")?.cmp(&key(1, b"a.srt")?), Ordering::Less);
+    assert_eq!(rt; key(1, b"a")?.cmp(&key(1, b"a")?), Ordering::Equal);
+    let held = key(7, b"a.srt")?;
+    assert_eq!(rt; held.name(), Name::try_from(b"a.srt".as_slice()));
+    let nameless = NameKey {
+        directory: 7,
+        name: PackedName { high: 0, low: 0 },
+    };
+    assert_eq!(rt; nameless.name(), Err(Refusal::InvalidName));
+    Ok(())
 }
 
 #[test]
 fn offsets(rt: HostRuntime) {
     let late = Offset { file: 1, block: 63 };
     let next = Offset { file: 2, block: 0 };
-    assert_eq!(rt; late.compare(&next), Ordering::Less);
-    assert_eq!(rt; next.compare(&late), Ordering::Greater);
-    assert_eq!(rt;
-        late.compare(&Offset { file: 1, block: 62 }),
-        Ordering::Greater
-    );
-    assert_eq!(rt; late.compare(&late), Ordering::Equal);
+    assert_eq!(rt; late.cmp(&next), Ordering::Less);
+    assert_eq!(rt; next.cmp(&late), Ordering::Greater);
+    assert_eq!(rt; late.cmp(&Offset { file: 1, block: 62 }), Ordering::Greater);
+    assert_eq!(rt; late.cmp(&late), Ordering::Equal);
 }
 
 #[test]
