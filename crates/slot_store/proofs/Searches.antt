@@ -1,26 +1,61 @@
 -- Searches: what they pass over, and what they find.
-use Rattle.std.proofs.Common.{◌≡◌, ℕ, zero, suc, ◌+◌, ◌-◌, ◌<◌, ◌≤◌, Bool, true, false, List, [], ◌∷◌, length, get_or, take, drop, is_some, Some, None, Option, sym, refl, ap, ◌∙◌, subst, inl, inr, add-one, arith, MatchOption}
-use Rattle.std.specs.List.{AllByRecursion}
+use Rattle.std.proofs.Common.{◌≡◌, ℕ, zero, suc, ◌+◌, ◌-◌, ◌<◌, ◌≤◌, min, Bool, true, false, cond, List, [], ◌∷◌, ◌++◌, length, get_or, take, drop, is_some, Some, None, Option, sym, refl, ap, ◌∙◌, ap₂, subst, inl, inr, add-one, arith, MatchOption, length-append}
+use Rattle.std.specs.Option.{option_or}
+use Rattle.std.proofs.lemmas.List.Folds.{find-append}
+use Rattle.std.proofs.lemmas.List.FromFn.{length-range_with_len, get_or-range_with_len}
+use Rattle.std.specs.List.{AllByRecursion, find, range_with_len}
 use Rattle.std.proofs.ByRecursion.{All-append, All-get_or}
-use Rattle.std.proofs.lemmas.List.{get_or-drop, get_or-take, length-drop, length-take, drop_more, drop_all, take-append-drop}
-use Rattle.std.proofs.lemmas.Bool.{cases_Bool, cond-true, cond-false}
+use Rattle.std.proofs.lemmas.List.{get_or-drop, get_or-take, get_or_append_left, get_or-append_right, length-drop, length-take, take-append-drop}
+use Rattle.std.proofs.lemmas.Bool.{cases_Bool, cases_lt}
 use Rattle.values.proofs.Cases.{none_is_not_some, same_some}
-use Rattle.slot_store.specs.Search.{first_place, going_round, or_else, Finds, MetBefore, NearestIsFound, holds}
+use Rattle.slot_store.specs.Search.{first_place, going_round, Finds, MetBefore, NearestIsFound, holds}
 use Rattle.stores.specs.Contents.{Entry}
 
--- A turn of a search that passes over a place.
-pub passed_over : {X : Type 0} (test : X → Bool) (at : ℕ) (xs : List X) (d : X) → at < length xs → test (get_or xs at d) ≡ false
-    → first_place test at (drop at xs) ≡ first_place test (at + 1) (drop (at + 1) xs)
-passed_over test at xs d h e =
-    ap (first_place test at) (drop_more xs at d h) ∙ cond-false _ _ _ e ∙ ap (λ (k : ℕ). first_place test k (drop (at + 1) xs)) (sym (add-one at))
+-- A search through places by number, in terms of what stands there.
 
--- A turn that stops.
-pub stopped_at : {X : Type 0} (test : X → Bool) (at : ℕ) (xs : List X) (d : X) → at < length xs → test (get_or xs at d) ≡ true
-    → first_place test at (drop at xs) ≡ Some at
-stopped_at test at xs d h e = ap (first_place test at) (drop_more xs at d h) ∙ cond-true _ _ _ e
+in_range : {X : Type 0} (by_place : ℕ → Bool) (test : X → Bool) (at : ℕ) (xs : List X) (d : X) → ((k : ℕ) → k < length xs → by_place (at + k) ≡ test (get_or xs k d))
+    → find by_place (range_with_len at (length xs)) ≡ first_place test at xs
+in_range by_place test at [] d h = refl
+in_range by_place test at (x ∷ xs) d h =
+    let z : at ≡ at + 0 = omega arith in
+    let here : by_place at ≡ test x = ap by_place z ∙ h 0 (omega arith) in
+    let step : (k : ℕ) → k < length xs → by_place (at + 1 + k) ≡ test (get_or xs k d) = λ k l. let m : at + 1 + k ≡ at + suc k = omega arith in ap by_place m ∙ h (suc k) (omega arith) in
+    ap₂ (λ (b : Bool) (o : Option ℕ). cond b (Some at) o) here
+    (in_range by_place test (at + 1) xs d step ∙ ap (λ (n : ℕ). first_place test n xs) (add-one at))
 
-pub ran_out : {X : Type 0} (test : X → Bool) (at : ℕ) (xs : List X) → length xs ≤ at → first_place test at (drop at xs) ≡ None
-ran_out test at xs h = ap (first_place test at) (drop_all at xs h)
+-- The places from `start` on among `count`, and round to the front.
+abbrev pub turn : (start count : ℕ) → List ℕ
+turn start count = range_with_len start (count - start) ++ range_with_len 0 (min start count)
+
+pub found_in_turn : {X : Type 0} (by_place : ℕ → Bool) (test : X → Bool) (start : ℕ) (xs : List X) (d : X) → ((k : ℕ) → k < length xs → by_place k ≡ test (get_or xs k d))
+    → find by_place (turn start (length xs)) ≡ going_round test start xs
+found_in_turn by_place test start xs d h =
+    let n = length-drop start xs in
+    let m = length-take start xs in
+    let above : (k : ℕ) → k < length (drop start xs) → by_place (start + k) ≡ test (get_or (drop start xs) k d) =
+    λ k l. h (start + k) (omega arith) ∙ ap test (sym (get_or-drop start xs k d)) in
+    let below : (k : ℕ) → k < length (take start xs) → by_place (0 + k) ≡ test (get_or (take start xs) k d) =
+    λ k l. let z : 0 + k ≡ k = omega arith in ap by_place z ∙ h k (omega arith) ∙ ap test (sym (get_or-take start xs k d (omega arith))) in
+    find-append by_place (range_with_len start (length xs - start)) (range_with_len 0 (min start (length xs)))
+    ∙ ap₂ option_or
+    (ap (λ (k : ℕ). find by_place (range_with_len start k)) (sym n) ∙ in_range by_place test start (drop start xs) d above)
+    (ap (λ (k : ℕ). find by_place (range_with_len 0 k)) (sym m) ∙ in_range by_place test 0 (take start xs) d below)
+
+pub within_turn : (start count k d : ℕ) → k < length (turn start count) → get_or (turn start count) k d < count
+within_turn start count k d h =
+    let n = length-range_with_len start (count - start) in
+    let m = length-range_with_len 0 (min start count) in
+    let l = length-append (range_with_len start (count - start)) (range_with_len 0 (min start count)) in
+    elim (cases_lt k (count - start)) [
+      | inl a ↦
+          let e = get_or_append_left (range_with_len start (count - start)) (range_with_len 0 (min start count)) d k (omega arith) in
+          let f = get_or-range_with_len start (count - start) k d a in
+          omega arith
+      | inr b ↦
+          let e = get_or-append_right (range_with_len start (count - start)) (range_with_len 0 (min start count)) (count - start) k d n b in
+          let f = get_or-range_with_len 0 (min start count) (k - (count - start)) d (omega arith) in
+          omega arith
+    ]
 
 pub none_passes : {X : Type 0} (test : X → Bool) (at : ℕ) (xs : List X) → first_place test at xs ≡ None → AllByRecursion (λ x. test x ≡ false) xs
 none_passes test at [] e = tt
@@ -89,15 +124,6 @@ round_finds number start slots (Some slot) e = round_some (holds (Some number)) 
 pub free_slot : (o : Option Entry) → holds None o ≡ true → o ≡ None
 free_slot None e = refl
 free_slot (Some x) e = let z : ◌≡◌ {A = ℕ} 0 1 = cc in absurd (omega arith)
-
--- Two searches, the second only where the first found nothing.
-pub first_of_two : (r first second : Option ℕ) → r ≡ first → is_some r ≡ true → r ≡ or_else first second
-first_of_two r None second e h = let z : ◌≡◌ {A = ℕ} 0 1 = cc in absurd (omega arith)
-first_of_two r (Some place) second e h = e
-
-pub second_of_two : (r first second : Option ℕ) → r ≡ first → is_some r ≡ false → second ≡ or_else first second
-second_of_two r None second e h = refl
-second_of_two r (Some place) second e h = let z : ◌≡◌ {A = ℕ} 0 1 = cc in absurd (omega arith)
 
 -- What is passed over does not pass.
 pub passed_by : {X : Type 0} (test : X → Bool) (at : ℕ) (xs : List X) (place : ℕ) (d : X) → first_place test at xs ≡ Some place

@@ -3,15 +3,19 @@ use Rattle.std.proofs.Common.{◌≡◌, ℕ, suc, ◌+◌, ◌-◌, ◌*◌, �
 use Rattle.std.specs.Option.{option_map}
 use Rattle.std.specs.List.{AllByRecursion}
 use Rattle.std.proofs.ByRecursion.{All-set, All-weaker}
-use Rattle.std.proofs.lemmas.List.{length-set, length-replicate, get_or-set_same, set-set, set-get_or}
+use Rattle.std.proofs.lemmas.List.{length-set, length-replicate, length_push, get_or-set_same, set-set, set-get_or}
 use Rattle.std.proofs.lemmas.Bool.{cond-true, and_from, le-leb}
 use Rattle.values.specs.Bytes.{over}
 use Rattle.stores.specs.Contents.{Entry, entry, Contents, emptied, appended, dropped, block_of, without}
 use Rattle.stores.specs.Laws.{BlockSized, Lawful}
 use Rattle.stores.proofs.Entries.{Lacks, nothing_found, rising_all_up_to, lacks_if_below}
 use Rattle.entry_layout.specs.Layout.{block_at, capacity_of, entry_bytes, entry_in, with_entry, zeroed}
+use Rattle.stores.proofs.Kept.{Admitted, Lawful-appended, Lawful-dropped, Lawful-emptied}
+use Rattle.slot_store.specs.Meaning.{contents_of}
+use Rattle.slot_store.specs.Sound.{Sound, state_of}
+use Rattle.slot_store.specs.declared.slots.SlotStore.TheInside.{Inside}
 use Rattle.slot_store.specs.Ranked.{placed, ranked}
-use Rattle.slot_store.specs.Search.{going_round, holds}
+use Rattle.slot_store.specs.Search.{Finds, going_round, holds}
 use Rattle.slot_store.specs.Slots.{slotted, slots_of, tail_of, zeroed_slots}
 use Rattle.slot_store.proofs.Placing.{InSlot, length-placed, all_in_slots, placed_last, found_placed, without_placed, ranked_at, others_lack, none_found, all_taken, ranked_none, holding_entry}
 use Rattle.slot_store.proofs.Searches.{round_none, round_some, free_slot}
@@ -42,16 +46,25 @@ contents_of_relaid : (bytes after : List ℕ) (last : ℕ) (new : List (Option E
 contents_of_relaid bytes after last new held r e =
     ap₂ (λ (h : List Entry) (n : ℕ). let c : Contents = record { held = h; last = last; capacity = capacity_of n } in c) (ap ranked r.slots ∙ e) r.long
 
--- An entry appended.
+-- An entry appended to a store with these fields.
 
-pub record Appended (bytes after : List ℕ) (last slot : ℕ) (e : Entry) : Type 0 where
-  pub contents : contents_in after e.number ≡ appended e.number e.block (contents_in bytes last)
+pub record Appended (s : Inside) (after : List ℕ) (slot : ℕ) (e : Entry) : Type 0 where
+  pub contents : contents_in after e.number ≡ appended e.number e.block (contents_of (state_of s))
   pub laid : LaidOut after
-  pub filled : after ≡ slotted (set (slots_of bytes) slot (Some e)) (tail_of bytes)
+  pub counted : s.held + 1 ≡ length (contents_in after e.number).held
+  pub lawful : Lawful (contents_in after e.number)
+  pub filled : after ≡ slotted (set (slots_of s.bytes.now) slot (Some e)) (tail_of s.bytes.now)
 
-pub append_step : (bytes after : List ℕ) (last slot next : ℕ) (e : Entry) → LaidOut bytes → Lawful (contents_in bytes last) → BlockSized e.block → last < e.number → e.number < 2 ^ 32
-    → going_round (holds None) next (slots_of bytes) ≡ Some slot → after ≡ with_entry (slot * 69) e bytes → Appended bytes after last slot e
-append_step bytes after last slot next e laid l s above narrow g w =
+pub append_step : (s : Inside) (after : List ℕ) (slot : ℕ) (e : Entry) → Sound s → Admitted e.number e.block (length (contents_of (state_of s)).held) s.last (capacity_of (length s.bytes.now)) → e.number < 2 ^ 32
+    → going_round (holds None) s.next (slots_of s.bytes.now) ≡ Some slot → after ≡ with_entry (slot * 69) e s.bytes.now → Appended s after slot e
+append_step store after slot e sound admitted narrow g w =
+    let bytes = store.bytes.now in
+    let last : ℕ = store.last in
+    let next : ℕ = store.next in
+    let laid = sound.laid in
+    let l = sound.lawful in
+    let s = admitted.sized in
+    let above = admitted.above in
     let n = count_of_slots (capacity_of (length bytes)) bytes in
     let p = round_some (holds None) next (slots_of bytes) slot None g in
     let i = p.0 in
@@ -75,9 +88,16 @@ append_step bytes after last slot next e laid l s above narrow g w =
     ∙ ap (λ (ss : List (Option Entry)). placed e (ranked ss)) freed
     ∙ placed_last e (ranked (slots_of bytes))
     (All-weaker (λ x. x.number ≤ last) (λ x. x.number < e.number) (λ x h. omega arith) (ranked (slots_of bytes)) (rising_all_up_to 0 last (ranked (slots_of bytes)) l.rising)) in
+    let contents : contents_in after e.number ≡ appended e.number e.block (contents_in bytes last) =
+    contents_of_relaid bytes after e.number new (ranked (slots_of bytes) ++ e ∷ []) again rank in
+    let k = sound.counted in
+    let j = length_push (ranked (slots_of bytes)) e in
+    let held : length (contents_in after e.number).held ≡ length (ranked (slots_of bytes) ++ e ∷ []) = ap (λ (d : Contents). length d.held) contents in
     record {
-      contents = contents_of_relaid bytes after e.number new (ranked (slots_of bytes) ++ e ∷ []) again rank;
+      contents = contents;
       laid = again.laid;
+      counted = omega arith;
+      lawful = subst Lawful (sym contents) (Lawful-appended (contents_in bytes last) e.number e.block l narrow admitted);
       filled = filled;
     }
 
@@ -105,17 +125,27 @@ found_block bytes last number slot l h t =
 pub no_block_found : (bytes : List ℕ) (number : ℕ) → AllByRecursion (λ o. holds (Some number) o ≡ false) (slots_of bytes) → block_of number (ranked (slots_of bytes)) ≡ None
 no_block_found bytes number h = nothing_found number (ranked (slots_of bytes)) (none_found number (slots_of bytes) h)
 
--- An entry dropped.
+pub block_where_found : (bytes : List ℕ) (last number : ℕ) (r : Option ℕ) → Lawful (contents_in bytes last) → Finds number (slots_of bytes) r
+    → block_at (option_map (λ slot. slot * 69) r) bytes ≡ block_of number (ranked (slots_of bytes))
+block_where_found bytes last number None l f = sym (no_block_found bytes number f)
+block_where_found bytes last number (Some slot) l f = (found_block bytes last number slot l f.0 f.1).0
 
-pub record Dropped (bytes after : List ℕ) (last slot number : ℕ) : Type 0 where
-  pub contents : contents_in after last ≡ dropped number (contents_in bytes last)
+-- An entry dropped from a store with these fields.
+
+pub record Dropped (s : Inside) (after : List ℕ) (slot number : ℕ) : Type 0 where
+  pub contents : contents_in after s.last ≡ dropped number (contents_of (state_of s))
   pub laid : LaidOut after
-  pub freed : after ≡ slotted (set (slots_of bytes) slot None) (tail_of bytes)
-  pub fewer : length (ranked (slots_of bytes)) ≡ suc (length (ranked (slots_of after)))
+  pub counted : s.held ≡ length (contents_in after s.last).held + 1
+  pub lawful : Lawful (contents_in after s.last)
+  pub freed : after ≡ slotted (set (slots_of s.bytes.now) slot None) (tail_of s.bytes.now)
 
-pub drop_step : (bytes after : List ℕ) (last slot number : ℕ) → LaidOut bytes → Lawful (contents_in bytes last) → slot < length (slots_of bytes)
-    → holds (Some number) (get_or (slots_of bytes) slot None) ≡ true → after ≡ zeroed (slot * 69) (slot * 69 + 69) bytes → Dropped bytes after last slot number
-drop_step bytes after last slot number laid l h t w =
+pub drop_step : (s : Inside) (after : List ℕ) (slot number : ℕ) → Sound s → slot < length (slots_of s.bytes.now)
+    → holds (Some number) (get_or (slots_of s.bytes.now) slot None) ≡ true → after ≡ zeroed (slot * 69) (slot * 69 + 69) s.bytes.now → Dropped s after slot number
+drop_step store after slot number sound h t w =
+    let bytes = store.bytes.now in
+    let last : ℕ = store.last in
+    let laid = sound.laid in
+    let l = sound.lawful in
     let n = count_of_slots (capacity_of (length bytes)) bytes in
     let p = holding_entry number (get_or (slots_of bytes) slot None) t in
     let e : Entry = entry number p.0 in
@@ -131,11 +161,17 @@ drop_step bytes after last slot number laid l h t w =
     let lacks = others_lack 0 last (slots_of bytes) slot e h p.1 l.rising in
     let rank = ranked_at (slots_of bytes) slot e h p.1 lacks in
     let left : ranked new ≡ without number (ranked (slots_of bytes)) = sym (ap (without number) rank ∙ without_placed number p.0 (ranked new) lacks) in
+    let contents : contents_in after last ≡ dropped number (contents_in bytes last) =
+    contents_of_relaid bytes after last new (without number (ranked (slots_of bytes))) again left in
+    let fewer : length (ranked (slots_of bytes)) ≡ suc (length (ranked (slots_of after))) =
+    ap length rank ∙ length-placed e (ranked new) ∙ ap (λ (ss : List (Option Entry)). suc (length (ranked ss))) (sym again.slots) in
+    let k = sound.counted in
     record {
-      contents = contents_of_relaid bytes after last new (without number (ranked (slots_of bytes))) again left;
+      contents = contents;
       laid = again.laid;
+      counted = omega arith;
+      lawful = subst Lawful (sym contents) (Lawful-dropped (contents_in bytes last) number l);
       freed = freed;
-      fewer = ap length rank ∙ length-placed e (ranked new) ∙ ap (λ (ss : List (Option Entry)). suc (length (ranked ss))) (sym again.slots);
     }
 
 -- All slots zeroed.
@@ -143,6 +179,8 @@ drop_step bytes after last slot number laid l h t w =
 pub record Cleared (bytes after : List ℕ) : Type 0 where
   pub contents : contents_in after 0 ≡ emptied (capacity_of (length bytes))
   pub laid : LaidOut after
+  pub counted : 0 ≡ length (contents_in after 0).held
+  pub lawful : Lawful (contents_in after 0)
   pub zeroed : after ≡ zeroed_slots bytes
 
 pub clear_step : (bytes after : List ℕ) → after ≡ zeroed 0 (capacity_of (length bytes) * 69) bytes → Cleared bytes after
@@ -159,4 +197,11 @@ clear_step bytes after w =
     let new : List (Option Entry) = replicate n None in
     let free : after ≡ slotted new (tail_of bytes) = z ∙ ap (λ (f : List ℕ). f ++ tail_of bytes) (sym (free_slots_bytes n)) in
     let again = relaid bytes after new (length-replicate n None) (free_slots_storable n) free in
-    record { contents = contents_of_relaid bytes after 0 new [] again (ranked_none n); laid = again.laid; zeroed = z }
+    let contents : contents_in after 0 ≡ emptied n = contents_of_relaid bytes after 0 new [] again (ranked_none n) in
+    record {
+      contents = contents;
+      laid = again.laid;
+      counted = sym (ap (λ (d : Contents). length d.held) contents);
+      lawful = subst Lawful (sym contents) (Lawful-emptied n (omega arith));
+      zeroed = z;
+    }

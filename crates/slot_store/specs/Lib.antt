@@ -2,3 +2,5 @@ pub mod Meaning
 pub mod Ranked
 pub mod Search
 pub mod Slots
+pub mod Sound
+pub mod State

@@ -1,6 +1,7 @@
 -- Searches among slots.
 use Rattle.std.specs.Prelude.{◌≡◌, ℕ, suc, ◌-◌, ◌<◌, ◌≤◌, Bool, true, false, cond, ◌⊎◌, List, [], ◌∷◌, length, take, drop, Some, None, Option, MatchOption, ◌==◌, nat_le, slice_index_or}
 use Rattle.std.specs.List.{AllByRecursion}
+use Rattle.std.specs.Option.{option_or}
 use Rattle.stores.specs.Contents.{Entry}
 
 -- Whether a slot holds the number sought, or is free where none is sought.
@@ -15,14 +16,9 @@ abbrev pub first_place : {X : Type 0} → (test : X → Bool) (at : ℕ) → Lis
 first_place test at [] = None
 first_place test at (x ∷ xs) = cond (test x) (Some at) (first_place test (suc at) xs)
 
--- The first place, or else the second.
-abbrev pub or_else : Option ℕ → Option ℕ → Option ℕ
-or_else None second = second
-or_else (Some place) second = Some place
-
 -- The first place from `start` on, and round to the front, that passes a test.
 abbrev pub going_round : {X : Type 0} → (test : X → Bool) (start : ℕ) → List X → Option ℕ
-going_round test start xs = or_else (first_place test start (drop start xs)) (first_place test 0 (take start xs))
+going_round test start xs = option_or (first_place test start (drop start xs)) (first_place test 0 (take start xs))
 
 -- The slot so many places below another among `count` slots, going round.
 abbrev pub slot_below : (slot places count : ℕ) → ℕ

@@ -1,10 +1,10 @@
 //! Searches among slots.
-ghost use Rattle.std.specs.Prelude.{◌≡◌, ◌*◌, ◌<◌, ◌≤◌, drop, IfSome};
-ghost use Rattle.entry_layout.specs.Layout.{entry_in};
-ghost use Rattle.slot_store.specs.Search.{first_place, going_round, holds};
-ghost use Rattle.slot_store.specs.Slots.{slots_in};
+ghost use Rattle.std.specs.Prelude.{◌≡◌, ◌*◌, ◌<◌, drop, length, IfSome};
+ghost use Rattle.entry_layout.specs.Layout.{capacity_of, entry_in};
+ghost use Rattle.slot_store.specs.Search.{going_round, holds};
+ghost use Rattle.slot_store.specs.Slots.{slots_of};
 
-use entry_layout::capacity::MAX_ENTRY_LENGTH;
+use entry_layout::capacity::{MAX_ENTRY_LENGTH, capacity_of};
 use entry_layout::entry::entry_at;
 
 // Whether a slot holds the number sought, or is free where none is sought.
@@ -12,36 +12,17 @@ fn slot_holds(bytes: &[u8], slot: usize, sought: Option<u32>) -> bool
     requires { slot < 4096 }
     ensures { result ≡ holds sought (entry_in (drop (slot * 69) bytes.now)) }
 {
-    match (entry_at(bytes, slot * MAX_ENTRY_LENGTH), sought) {
-        (None, None) => true,
-        (Some(entry), Some(number)) => entry.number == number,
-        _ => false,
-    }
+    entry_at(bytes, slot * MAX_ENTRY_LENGTH).map(|entry| entry.number) == sought
 }
 
-// The first slot, from one on and before another, that holds the number sought, or is free where
-// none is sought.
-fn first_slot(bytes: &[u8], sought: Option<u32>, from: usize, to: usize) -> Option<usize>
-    requires { to ≤ 4096 }
-    ensures { result ≡ first_place (holds sought) from (drop from (slots_in to bytes.now)) }
+// The first slot, from `start` on and round to the front, that holds the number sought, or is free
+// where none is sought.
+pub fn slot_from(bytes: &[u8], sought: Option<u32>, start: usize) -> Option<usize>
+    ensures place { result ≡ going_round (holds sought) start (slots_of bytes.now) }
+    ensures within { IfSome result (λ slot. slot < capacity_of (length bytes.now)) }
 {
-    for slot in from..to {
-        if slot_holds(bytes, slot, sought) {
-            return Some(slot);
-        }
-    }
-    None
-}
-
-// The same among the first `count` slots, from `start` on and round to the front.
-pub fn slot_from(bytes: &[u8], sought: Option<u32>, start: usize, count: usize) -> Option<usize>
-    requires { count ≤ 4096 }
-    ensures place { result ≡ going_round (holds sought) start (slots_in count bytes.now) }
-    ensures within { IfSome result (λ slot. slot < count) }
-{
-    let above = first_slot(bytes, sought, start, count);
-    if above.is_some() {
-        return above;
-    }
-    first_slot(bytes, sought, 0, start.min(count))
+    let count = capacity_of(bytes.len());
+    (start..count)
+        .chain(0..start.min(count))
+        .find(|&slot| slot_holds(bytes, slot, sought))
 }

@@ -3,7 +3,8 @@ ghost use Rattle.std.specs.Prelude.{◌≡◌, ◌<◌, length, IfSome, Some, No
 ghost use Rattle.stores.specs.Calls.{Appends, Drops};
 ghost use Rattle.stores.specs.Contents.{emptied, entry};
 ghost use Rattle.entry_layout.specs.Layout.{capacity_of};
-ghost use Rattle.slot_store.specs.Meaning.{contents_of, Sound, Filled, Freed, Zeroed, lawful_of};
+ghost use Rattle.stores.specs.Laws.{Lawful};
+ghost use Rattle.slot_store.specs.Meaning.{contents_of, Filled, Freed, Zeroed};
 ghost use Rattle.slot_store.specs.Search.{Finds, NearestIsFound, going_round, holds, likely_slot};
 ghost use Rattle.slot_store.specs.Slots.{slots_of, slotted, tail_of, zeroed_slots};
 
@@ -11,6 +12,7 @@ use crate::search::slot_from;
 use entry_layout::capacity::{MAX_ENTRY_LENGTH, capacity_of};
 use entry_layout::entry::{read_entry, write_entry};
 use entry_layout::parts::fill_zero;
+use std::marker::Model;
 use stores::admission::Standing;
 use stores::store::Store;
 use values::refusal::Refusal;
@@ -25,12 +27,24 @@ pub struct SlotStore<'a> {
     next: usize,
 }
 
+impl<'a> Model for SlotStore<'a> {
+    ghost use Rattle.slot_store.specs.State.{SlotState};
+
+    ghost Value = { SlotState };
+
+    ghost use Rattle.slot_store.specs.Sound.{state_of, Sound};
+
+    ghost view = { state_of };
+
+    ghost invariant = { Sound };
+}
+
 impl<'a> SlotStore<'a> {
     /// An empty store in these bytes.
     pub fn new(bytes: &'a mut [u8]) -> SlotStore<'a>
         ensures contents { contents_of result ≡ emptied (capacity_of (length bytes.old)) }
-        ensures sound { Sound result }
-        ensures bytes { result.bytes.now ≡ zeroed_slots bytes.old }
+        ensures lawful { Lawful (contents_of result) }
+        ensures bytes { result.bytes ≡ zeroed_slots bytes.old }
         ensures next { result.next ≡ 0 }
     {
         let end = capacity_of(bytes.len()) * MAX_ENTRY_LENGTH;
@@ -45,46 +59,56 @@ impl<'a> SlotStore<'a> {
 
     /// The lent bytes as they stand.
     pub fn bytes(&self) -> &[u8]
-        ensures value { result.now ≡ self.now.bytes.now }
-        ensures laid { Sound self.now → result.now ≡ slotted (slots_of result.now) (tail_of result.now) }
+        ensures value { result.now ≡ self.now.bytes }
+        ensures laid { result.now ≡ slotted (slots_of result.now) (tail_of result.now) }
     {
         self.bytes
     }
 
+    // Where the store stands, as far as appending goes.
+    fn standing(&self) -> Standing
+        ensures { result ≡ record {
+          held = length (contents_of self.now).held;
+          last = self.now.last;
+          capacity = capacity_of (length self.now.bytes);
+        } }
+    {
+        Standing {
+            held: self.held,
+            last: self.last,
+            capacity: self.capacity(),
+        }
+    }
+
     // The next free slot above the one filled last, going round.
     fn free_slot(&self) -> Option<usize>
-        ensures place { result ≡ going_round (holds None) self.now.next (slots_of self.now.bytes.now) }
-        ensures within { IfSome result (λ slot. slot < capacity_of (length self.now.bytes.now)) }
+        ensures place { result ≡ going_round (holds None) self.now.next (slots_of self.now.bytes) }
+        ensures within { IfSome result (λ slot. slot < capacity_of (length self.now.bytes)) }
     {
-        slot_from(self.bytes, None, self.next, capacity_of(self.bytes.len()))
+        slot_from(self.bytes, None, self.next)
     }
 
     // Where the entry with this number stands if no slot was passed over since it was appended: as
     // far below the slot filled last as its number is below the last number, going round.
     fn likely_slot(&self, number: u32) -> usize
-        ensures { result ≡ likely_slot number self.now.last self.now.next (capacity_of (length self.now.bytes.now)) }
+        ensures { result ≡ likely_slot number self.now.last self.now.next (capacity_of (length self.now.bytes)) }
     {
         let behind = self.last.saturating_sub(number) as usize;
         let newest = self.next.saturating_sub(1);
         if behind <= newest {
             return newest - behind;
         }
-        capacity_of(self.bytes.len()).saturating_sub(behind - newest)
+        self.capacity().saturating_sub(behind - newest)
     }
 
     // The slot of the entry with this number.
     fn slot_of(&self, number: u32) -> Option<usize>
-        ensures place { result ≡ going_round (holds (Some number)) (likely_slot number self.now.last self.now.next (capacity_of (length self.now.bytes.now))) (slots_of self.now.bytes.now) }
-        ensures finds { Finds number (slots_of self.now.bytes.now) result }
-        ensures within { IfSome result (λ slot. slot < capacity_of (length self.now.bytes.now)) }
+        ensures place { result ≡ going_round (holds (Some number)) (likely_slot number self.now.last self.now.next (capacity_of (length self.now.bytes))) (slots_of self.now.bytes) }
+        ensures finds { Finds number (slots_of self.now.bytes) result }
+        ensures within { IfSome result (λ slot. slot < capacity_of (length self.now.bytes)) }
     {
         let start = self.likely_slot(number);
-        slot_from(
-            self.bytes,
-            Some(number),
-            start,
-            capacity_of(self.bytes.len()),
-        )
+        slot_from(self.bytes, Some(number), start)
     }
 }
 
@@ -97,10 +121,6 @@ pub fn nearest_is_found()
 impl Store for SlotStore<'_> {
     ghost contents = { contents_of };
 
-    ghost sound = { Sound };
-
-    ghost lawful = { lawful_of };
-
     fn held(&self) -> usize {
         self.held
     }
@@ -110,20 +130,13 @@ impl Store for SlotStore<'_> {
     }
 
     fn append(&mut self, number: u32, block: &[u8]) -> Result<(), Refusal>
-        ensures appends { Sound self.old → Appends number block.now (contents_of self.old) (contents_of self.new) result }
-        ensures sound { Sound self.old → Sound self.new }
-        ensures filled { Sound self.old → OnOk result (Filled (entry number block.now) self.old self.new) }
+        ensures appends { Appends number block.now (contents_of self.old) (contents_of self.new) result }
+        ensures lawful { Lawful (contents_of self.new) }
+        ensures filled { OnOk result (Filled (entry number block.now) self.old self.new) }
         ensures same { OnErr result (self.new ≡ self.old) }
     {
-        let standing = Standing {
-            held: self.held,
-            last: self.last,
-            capacity: self.capacity(),
-        };
-        standing.admit(number, block)?;
-        let Some(slot) = self.free_slot() else {
-            return Err(Refusal::StoreFull);
-        };
+        self.standing().admit(number, block)?;
+        let slot = self.free_slot().ok_or(Refusal::StoreFull)?;
         write_entry(self.bytes, slot * MAX_ENTRY_LENGTH, number, block);
         self.held += 1;
         self.last = number;
@@ -132,31 +145,26 @@ impl Store for SlotStore<'_> {
     }
 
     fn read(&self, number: u32, buffer: &mut [u8]) -> Result<usize, Refusal> {
-        let place = match self.slot_of(number) {
-            Some(slot) => Some(slot * MAX_ENTRY_LENGTH),
-            None => None,
-        };
+        let place = self.slot_of(number).map(|slot| slot * MAX_ENTRY_LENGTH);
         read_entry(self.bytes, place, buffer)
     }
 
     fn drop_entry(&mut self, number: u32) -> Result<(), Refusal>
-        ensures drops { Sound self.old → Drops number (contents_of self.old) (contents_of self.new) result }
-        ensures sound { Sound self.old → Sound self.new }
-        ensures freed { Sound self.old → OnOk result (Freed number self.old self.new) }
+        ensures drops { Drops number (contents_of self.old) (contents_of self.new) result }
+        ensures lawful { Lawful (contents_of self.new) }
+        ensures freed { OnOk result (Freed number self.old self.new) }
         ensures same { OnErr result (self.new ≡ self.old) }
     {
-        let Some(slot) = self.slot_of(number) else {
-            return Err(Refusal::NoSuchEntry);
-        };
+        let slot = self.slot_of(number).ok_or(Refusal::NoSuchEntry)?;
         let at = slot * MAX_ENTRY_LENGTH;
         fill_zero(self.bytes, at, at + MAX_ENTRY_LENGTH);
-        self.held = self.held.saturating_sub(1);
+        self.held -= 1;
         Ok(())
     }
 
     fn clear(&mut self)
         ensures cleared { contents_of self.new ≡ emptied (contents_of self.old).capacity }
-        ensures sound { Sound self.new }
+        ensures lawful { Lawful (contents_of self.new) }
         ensures zeroed { Zeroed self.old self.new }
     {
         let end = self.capacity() * MAX_ENTRY_LENGTH;

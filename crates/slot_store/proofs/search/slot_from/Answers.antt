@@ -1,30 +1,40 @@
-use Rattle.std.proofs.Common.{◌≡◌, ℕ, ◌<◌, List, take, drop, IfSome, Some, None, Option, sym, ap, ◌∙◌, arith}
-use Rattle.slot_store.specs.Search.{first_place, going_round, holds}
-use Rattle.slot_store.specs.Slots.{slots_in}
-use Rattle.slot_store.proofs.Searches.{round_some, first_of_two, second_of_two}
-use Rattle.slot_store.proofs.SlotBytes.{count_of_slots, fewer_slots}
+use Rattle.std.proofs.Common.{◌≡◌, ℕ, ◌*◌, ◌-◌, ◌<◌, Bool, drop, length, min, None, refl, sym, ap, ◌∙◌, rules, arith}
+use Rattle.std.specs.List.{find}
+use Rattle.std.proofs.lemmas.Iterator.{YieldsList-from_range}
+use Rattle.std.proofs.lemmas.Iterator.Adapters.{option_map_id, serves_from_places}
+use Rattle.std.proofs.lemmas.Iterator.Consumers.{YieldsList-from_chain}
+use Rattle.std.proofs.lemmas.Iterator.Search.{find_from_yields_List}
+use Rattle.entry_layout.specs.Layout.{capacity_of, entry_in}
+use Rattle.slot_store.specs.Search.{holds}
+use Rattle.slot_store.specs.Slots.{slots_of}
+use Rattle.slot_store.proofs.Searches.{found_in_turn, turn, within_turn}
+use Rattle.slot_store.proofs.SlotBytes.{count_of_slots, slot_at}
 use Rattle.slot_store.proofs.search.slot_from.Goals as goal
 
-within : (sought : Option ℕ) (start count : ℕ) (bytes : List ℕ) (r : Option ℕ) → r ≡ going_round (holds sought) start (slots_in count bytes) → IfSome r (λ slot. slot < count)
-within sought start count bytes None e = tt
-within sought start count bytes (Some slot) e =
-    let n = count_of_slots count bytes in
-    let p = (round_some (holds sought) start (slots_in count bytes) slot None (sym e)).0 in
-    omega arith
+same_below : (x y : ℕ) → y ≡ x → x < 4096 → y < 4096
+same_below x y e h = omega arith
 
-pub returns-then-is_some : goal.returns-then-is_some
-returns-then-is_some c =
-    let e = first_of_two _ _ (first_place (holds c.args.sought) 0 (take c.args.start (slots_in c.args.count c.args.bytes.now))) c.first_slot-above.ensures (sym c.if-is_some.ensures) in
-    record { place = e; within = within c.args.sought c.args.start c.args.count c.args.bytes.now _ e }
+pub find-requires-clause-callable : goal.find-requires-clause-callable
+find-requires-clause-callable c =
+    let n : c.min.result - 0 ≡ min c.args.start c.capacity_of-count.result = omega arith in
+    serves_from_places
+    (YieldsList-from_chain {s = c.chain.result} (YieldsList-from_range c.args.start c.capacity_of-count.result _ (cc) refl) (YieldsList-from_range 0 c.min.result _ (cc) n) (cc) (cc))
+    (λ x q k. search rules)
+    (λ x k l e.
+    let w = within_turn c.args.start c.capacity_of-count.result k x l in
+    let b : x < 4096 = omega arith in
+    search (same_below x))
 
-pub returns : goal.returns
-returns c =
-    let test = holds c.args.sought in
-    let slots = slots_in c.args.count c.args.bytes.now in
-    let below : c.first_slot.result ≡ first_place test 0 (take c.args.start slots) =
-    c.first_slot.ensures
-    ∙ ap (λ (k : ℕ). first_place test 0 (slots_in k c.args.bytes.now)) c.min.ensures
-    ∙ ap (first_place test 0) (fewer_slots c.args.start c.args.count c.args.bytes.now) in
-    let e : c.first_slot.result ≡ going_round test c.args.start slots =
-    below ∙ second_of_two c.first_slot-above.result (first_place test c.args.start (drop c.args.start slots)) _ c.first_slot-above.ensures (sym c.if-is_some.ensures) in
-    record { place = e; within = within c.args.sought c.args.start c.args.count c.args.bytes.now _ e }
+pub returns-clause-place : goal.returns-clause-place
+returns-clause-place c =
+    let n : c.min.result - 0 ≡ min c.args.start c.capacity_of-count.result = omega arith in
+    let bytes = c.args.bytes.now in
+    let by_place : ℕ → Bool = λ k. holds c.args.sought (entry_in (drop (k * 69) bytes)) in
+    let e : c.capacity_of-count.result ≡ length (slots_of bytes) = c.capacity_of-count.ensures ∙ sym (count_of_slots _ bytes) in
+    sym (option_map_id c.find.result)
+    ∙ find_from_yields_List by_place _ _ c.find.result c.find.ensures.ran
+    (YieldsList-from_chain {s = c.chain.result} (YieldsList-from_range c.args.start c.capacity_of-count.result _ (cc) refl) (YieldsList-from_range 0 c.min.result _ (cc) n) (cc) (cc))
+    (λ x b q k. search rules)
+    ∙ ap (λ (m : ℕ). find by_place (turn c.args.start m)) e
+    ∙ found_in_turn by_place (holds c.args.sought) c.args.start (slots_of bytes) None
+    (λ k l. ap (holds c.args.sought) (sym (slot_at _ k bytes (omega (arith, count_of_slots (capacity_of (length bytes)) bytes)))))

@@ -1,17 +1,13 @@
-use Rattle.std.proofs.Common.{ℕ, ◌*◌, length, sym, refl, ap, ◌∙◌, subst, arith}
-use Rattle.stores.specs.Contents.{Contents}
-use Rattle.stores.specs.Laws.{Lawful}
-use Rattle.stores.proofs.Kept.{Lawful-emptied}
-use Rattle.entry_layout.specs.Layout.{zeroed}
+use Rattle.std.proofs.Common.{refl}
 use Rattle.slot_store.proofs.Steps.{clear_step}
 use Rattle.slot_store.proofs.slots.SlotStoreStore.clear.Goals as goal
 
+pub invariant_of-self : goal.invariant_of-self
+invariant_of-self c =
+    let k = clear_step c.self.inside.bytes.now c.fill_zero.new.bytes (rw (c.capacity-end.ensures.room, ← c.self.view_is) at c.fill_zero.ensures) in
+    record { laid = k.laid; counted = k.counted; lawful = k.lawful }
+
 pub returns : goal.returns
 returns c =
-    let bytes = c.args.self.now.bytes.now in
-    let k = clear_step bytes c.fill_zero.new.bytes (c.fill_zero.ensures ∙ ap (λ (n : ℕ). zeroed 0 (n * 69) bytes) c.capacity-end.ensures) in
-    record {
-      cleared = k.contents;
-      sound = record { laid = k.laid; counted = sym (ap (λ (d : Contents). length d.held) k.contents); lawful = subst Lawful (sym k.contents) (Lawful-emptied _ (omega arith)) };
-      zeroed = record { bytes = k.zeroed; next = refl };
-    }
+    let k = clear_step c.self.inside.bytes.now c.fill_zero.new.bytes (rw (c.capacity-end.ensures.room, ← c.self.view_is) at c.fill_zero.ensures) in
+    rw (← c.self.view_is) (record { cleared = k.contents; lawful = k.lawful; zeroed = record { bytes = k.zeroed; next = refl } })

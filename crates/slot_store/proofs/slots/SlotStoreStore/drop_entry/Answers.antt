@@ -1,35 +1,40 @@
-use Rattle.std.proofs.Common.{sym, refl, subst, arith}
-use Rattle.stores.specs.Laws.{Lawful}
-use Rattle.stores.proofs.Kept.{Lawful-dropped}
+use Rattle.std.proofs.Common.{◌≡◌, refl, arith}
+use Rattle.std.proofs.lemmas.Result.{err_from_is_err_and}
+use Rattle.values.specs.declared.refusal.Refusal.TheVariants.{NoSuchEntry}
 use Rattle.slot_store.proofs.Steps.{drop_step, found_block, no_block_found}
 use Rattle.slot_store.proofs.slots.SlotStoreStore.drop_entry.Goals as goal
 
-pub returns-in_default : goal.returns-in_default
-returns-in_default c =
-    let none = no_block_found c.args.self.now.bytes.now c.args.number c.in_default.ensures.finds in
-    record {
-      drops = λ s. record { answered = simp none; unaltered = refl };
-      sound = λ s. s;
-      freed = λ s. tt;
-      same = refl;
-    }
+pub overflow_sub-self : goal.overflow_sub-self
+overflow_sub-self c =
+    let found = rw (c.in_ok-slot.ensures.ok_part, ← c.self.view_is) at c.slot_of.ensures.finds in
+    let d = drop_step c.self.inside c.fill_zero.new.bytes c.in_ok-slot.slot c.args.number c.self.invariant found.0 found.1 c.fill_zero.ensures in
+    let k = d.counted in
+    omega arith
+
+pub invariant_of-self : goal.invariant_of-self
+invariant_of-self c =
+    let found = rw (c.in_ok-slot.ensures.ok_part, ← c.self.view_is) at c.slot_of.ensures.finds in
+    let d = drop_step c.self.inside c.fill_zero.new.bytes c.in_ok-slot.slot c.args.number c.self.invariant found.0 found.1 c.fill_zero.ensures in
+    let k = d.counted in
+    record { laid = d.laid; counted = omega arith; lawful = d.lawful }
+
+pub returns-in_err-slot-clause-drops : goal.returns-in_err-slot-clause-drops
+returns-in_err-slot-clause-drops c =
+    let lost = rw c.in_err-slot.ensures.ok_part at c.slot_of.ensures.finds in
+    let none = no_block_found c.args.self.now.bytes c.args.number lost in
+    let why = rw c.in_err-slot.ensures.ok_part at c.in_err-slot.ensures.value in
+    let e : c.in_err-slot.field-0.0 ≡ NoSuchEntry = cc in
+    let p = err_from_is_err_and c.from_residual.result c.from_residual.ensures.1 in
+    rw (p.1, p.2, e) (record { answered = simp none; unaltered = refl })
 
 pub returns : goal.returns
 returns c =
-    let store = c.args.self.now in
-    let found = c.in-Some.ensures.finds in
-    record {
-      drops = λ s.
-          let d = drop_step store.bytes.now c.fill_zero.new.bytes store.last c.in-Some.slot c.args.number s.laid s.lawful found.0 found.1 c.fill_zero.ensures in
-          let b = found_block store.bytes.now store.last c.args.number c.in-Some.slot s.lawful found.0 found.1 in
-          record { answered = simp (b.1, d.contents); unaltered = tt };
-      sound = λ s.
-          let d = drop_step store.bytes.now c.fill_zero.new.bytes store.last c.in-Some.slot c.args.number s.laid s.lawful found.0 found.1 c.fill_zero.ensures in
-          let k = s.counted in
-          let f = d.fewer in
-          record { laid = d.laid; counted = omega (arith, c.saturating_sub-self.ensures); lawful = subst Lawful (sym d.contents) (Lawful-dropped _ c.args.number s.lawful) };
-      freed = λ s.
-          let d = drop_step store.bytes.now c.fill_zero.new.bytes store.last c.in-Some.slot c.args.number s.laid s.lawful found.0 found.1 c.fill_zero.ensures in
-          record { slot = c.in-Some.slot; held = found.1; bytes = d.freed; next = refl };
+    let found = rw (c.in_ok-slot.ensures.ok_part, ← c.self.view_is) at c.slot_of.ensures.finds in
+    let d = drop_step c.self.inside c.fill_zero.new.bytes c.in_ok-slot.slot c.args.number c.self.invariant found.0 found.1 c.fill_zero.ensures in
+    let b = found_block c.self.inside.bytes.now c.self.inside.last c.args.number c.in_ok-slot.slot c.self.invariant.lawful found.0 found.1 in
+    rw (← c.self.view_is) (record {
+      drops = record { answered = simp (b.1, d.contents); unaltered = tt };
+      lawful = d.lawful;
+      freed = record { slot = c.in_ok-slot.slot; held = found.1; bytes = d.freed; next = refl };
       same = tt;
-    }
+    })

@@ -1,26 +1,21 @@
-use Rattle.std.proofs.Common.{◌≡◌, ℕ, List, Option, sym, ap, ◌∙◌}
+use Rattle.std.proofs.Common.{◌≡◌, ℕ, ◌*◌, List, Option, ap, ◌∙◌, rules}
+use Rattle.std.specs.Option.{option_map}
 use Rattle.stores.specs.Calls.{copying}
 use Rattle.stores.specs.Contents.{block_of}
 use Rattle.entry_layout.specs.Layout.{block_at}
 use Rattle.slot_store.specs.Ranked.{ranked}
 use Rattle.slot_store.specs.Slots.{slots_of}
-use Rattle.slot_store.proofs.Steps.{found_block, no_block_found}
+use Rattle.slot_store.proofs.Steps.{block_where_found}
 use Rattle.slot_store.proofs.slots.SlotStoreStore.read.Goals as goal
-use Rattle.slot_store.proofs.slots.SlotStoreStore.read.Goals.{in-Some, in-None}
 
 pub returns : goal.returns
-returns c = λ s.
-    let bytes = c.args.self.now.bytes.now in
-    let number = c.args.number in
-    let e : block_at c.match-slot_of.place bytes ≡ block_of number (ranked (slots_of bytes)) =
-    elim c.match-slot_of.branch [
-      | in-Some w ↦
-          let found = w.in-Some.ensures.finds in
-          ap (λ (o : Option ℕ). block_at o bytes) w.place-is
-          ∙ (found_block bytes c.args.self.now.last number w.in-Some.slot s.lawful found.0 found.1).0
-      | in-None w ↦ ap (λ (o : Option ℕ). block_at o bytes) w.place-is ∙ sym (no_block_found bytes number w.in-None.ensures.finds)
-    ] in
-    record {
+returns c =
+    let bytes = c.self.inside.bytes.now in
+    let place : c.map-place.result ≡ option_map (λ slot. slot * 69) c.slot_of.result = search rules in
+    let e : block_at c.map-place.result bytes ≡ block_of c.args.number (ranked (slots_of bytes)) =
+    ap (λ (o : Option ℕ). block_at o bytes) place
+    ∙ block_where_found bytes c.self.inside.last c.args.number c.slot_of.result c.self.invariant.lawful (rw (← c.self.view_is) at c.slot_of.ensures.finds) in
+    rw (← c.self.view_is) (record {
       answered = c.read_entry.ensures.answered ∙ ap (λ (o : Option (List ℕ)). copying o c.args.buffer.now) e;
       unaltered = c.read_entry.ensures.unaltered;
-    }
+    })

@@ -1,0 +1,9 @@
+-- What a caller sees of a slot store.
+use Rattle.std.specs.Prelude.{ℕ, List}
+
+-- The lent bytes, the last number accepted, and the slot above the one filled last. How many entries are held is what the
+-- bytes say.
+pub record SlotState : Type 0 where
+  pub bytes : List ℕ
+  pub last : ℕ
+  pub next : ℕ
