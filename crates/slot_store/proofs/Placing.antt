@@ -173,11 +173,6 @@ all_taken [] h = refl
 all_taken (None ∷ slots) h = let z : ◌≡◌ {A = ℕ} 0 1 = let q = h.0 in cc in absurd (omega arith)
 all_taken (Some y ∷ slots) h = length-placed y (ranked slots) ∙ ap suc (all_taken slots h.1)
 
-pub ranked_within : (slots : List (Option Entry)) → length (ranked slots) ≤ length slots
-ranked_within [] = omega arith
-ranked_within (None ∷ slots) = let p = ranked_within slots in omega arith
-ranked_within (Some y ∷ slots) = let p = ranked_within slots in let q = length-placed y (ranked slots) in omega arith
-
 pub ranked_none : (n : ℕ) → ranked (replicate n None) ≡ []
 ranked_none zero = refl
 ranked_none (suc n) = ranked_none n

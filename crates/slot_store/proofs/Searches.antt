@@ -1,6 +1,12 @@
 -- Searches: what they pass over, and what they find.
-use Rattle.std.proofs.Common.{◌≡◌, ℕ, zero, suc, ◌+◌, ◌-◌, ◌<◌, ◌≤◌, min, Bool, true, false, cond, List, [], ◌∷◌, ◌++◌, length, get_or, take, drop, is_some, Some, None, Option, sym, refl, ap, ◌∙◌, ap₂, subst, inl, inr, add-one, arith, MatchOption, length-append}
+use Rattle.std.proofs.Common.{◌≡◌, ℕ, zero, suc, ◌+◌, ◌-◌, ◌<◌, ◌≤◌, min, Bool, true, false, cond, List, [], ◌∷◌, ◌++◌, length, get_or, take, drop, Some, None, Option, sym, refl, ap, ◌∙◌, ap₂, subst, inl, inr, add-one, arith, MatchOption, length-append}
 use Rattle.std.specs.Option.{option_or}
+use Rattle.std.specs.Iterator.Adapters.{chain_first, chain_first_done, chain_second, chain_second_done, chain_steps}
+use Rattle.std.specs.declared.iter.Chain.{Chain}
+use Rattle.std.specs.declared.ops.Range.{Range}
+use Rattle.std.proofs.iter.Yields.{nat_range_steps}
+use Rattle.std.proofs.lemmas.Iterator.{YieldsList, YieldsList-from_range}
+use Rattle.std.proofs.lemmas.Iterator.Consumers.{YieldsList-from_chain}
 use Rattle.std.proofs.lemmas.List.Folds.{find-append}
 use Rattle.std.proofs.lemmas.List.FromFn.{length-range_with_len, get_or-range_with_len}
 use Rattle.std.specs.List.{AllByRecursion, find, range_with_len}
@@ -26,6 +32,13 @@ in_range by_place test at (x ∷ xs) d h =
 -- The places from `start` on among `count`, and round to the front.
 abbrev pub turn : (start count : ℕ) → List ℕ
 turn start count = range_with_len start (count - start) ++ range_with_len 0 (min start count)
+
+-- Two ranges, one behind the other, yield these places.
+pub YieldsList-turn_of_places : (s : Chain (Range ℕ) (Range ℕ)) (start count end : ℕ) → chain_first s ≡ record { start = start; end = count } → chain_second s ≡ record { start = 0; end = end }
+    → end ≡ min start count → chain_first_done s ≡ false → chain_second_done s ≡ false → YieldsList (chain_steps nat_range_steps nat_range_steps) (λ x. x) s (turn start count)
+YieldsList-turn_of_places s start count end first second e p q =
+    let n : end - 0 ≡ min start count = omega arith in
+    YieldsList-from_chain (YieldsList-from_range start count (count - start) first refl) (YieldsList-from_range 0 end (min start count) second n) p q
 
 pub found_in_turn : {X : Type 0} (by_place : ℕ → Bool) (test : X → Bool) (start : ℕ) (xs : List X) (d : X) → ((k : ℕ) → k < length xs → by_place k ≡ test (get_or xs k d))
     → find by_place (turn start (length xs)) ≡ going_round test start xs

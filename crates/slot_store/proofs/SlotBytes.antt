@@ -1,5 +1,5 @@
 -- Slots in bytes: reading them back, and writing one.
-use Rattle.std.proofs.Common.{◌≡◌, ℕ, zero, suc, ◌+◌, ◌-◌, ◌*◌, ◌^◌, ◌<◌, ◌≤◌, min, List, [], ◌∷◌, ◌++◌, length, get_or, take, drop, set, replicate, Some, None, Option, sym, refl, ap, ◌∙◌, ap₂, append_assoc, arith, length-append}
+use Rattle.std.proofs.Common.{◌≡◌, ℕ, zero, suc, ◌+◌, ◌-◌, ◌*◌, ◌^◌, ◌<◌, ◌≤◌, List, [], ◌∷◌, ◌++◌, length, get_or, drop, set, replicate, Some, None, Option, sym, refl, ap, ◌∙◌, ap₂, append_assoc, arith, length-append}
 use Rattle.std.specs.List.{flat_map, AllByRecursion}
 use Rattle.std.proofs.lemmas.List.{drop_at, drop-drop, length-replicate, length-drop, drop-replicate, drop-append-le, replicate-append-replicate}
 use Rattle.values.specs.Bytes.{over}
@@ -54,13 +54,6 @@ slot_at (suc n) zero bytes h = refl
 slot_at (suc n) (suc s) bytes h =
     let m : 69 + s * 69 ≡ suc s * 69 = omega arith in
     slot_at n s (drop 69 bytes) (omega arith) ∙ ap entry_in (drop-drop (s * 69) 69 bytes ∙ ap (λ (k : ℕ). drop k bytes) m)
-
-pub fewer_slots : (m n : ℕ) (bytes : List ℕ) → slots_in (min m n) bytes ≡ take m (slots_in n bytes)
-fewer_slots zero n bytes = let e : min 0 n ≡ 0 = omega arith in ap (λ (k : ℕ). slots_in k bytes) e
-fewer_slots (suc m) zero bytes = let e : min (suc m) 0 ≡ 0 = omega arith in ap (λ (k : ℕ). slots_in k bytes) e
-fewer_slots (suc m) (suc n) bytes =
-    let e : min (suc m) (suc n) ≡ suc (min m n) = omega arith in
-    ap (λ (k : ℕ). slots_in k bytes) e ∙ ap (λ (l : List (Option Entry)). entry_in bytes ∷ l) (fewer_slots m n (drop 69 bytes))
 
 -- A write within one slot.
 written_in_slot : (s : ℕ) (ys : List ℕ) (o : Option Entry) (slots : List (Option Entry)) (tail : List ℕ) → AllByRecursion (InSlot Storable) slots → s < length slots

@@ -1,18 +1,20 @@
 -- What filling, freeing and zeroing slots makes of the contents of a slot store.
-use Rattle.std.proofs.Common.{◌≡◌, ℕ, suc, ◌+◌, ◌-◌, ◌*◌, ◌^◌, ◌<◌, ◌≤◌, true, false, List, [], ◌∷◌, ◌++◌, length, get_or, drop, set, replicate, is_some, Some, None, Option, sym, ap, ◌∙◌, subst, ap₂, arith}
+use Rattle.std.proofs.Common.{◌≡◌, ℕ, suc, ◌+◌, ◌-◌, ◌*◌, ◌^◌, ◌<◌, ◌≤◌, true, false, List, [], ◌∷◌, ◌++◌, length, get_or, drop, set, replicate, is_some, Some, None, Ok, Option, refl, sym, ap, ◌∙◌, subst, ap₂, arith}
 use Rattle.std.specs.Option.{option_map}
 use Rattle.std.specs.List.{AllByRecursion}
 use Rattle.std.proofs.ByRecursion.{All-set, All-weaker}
 use Rattle.std.proofs.lemmas.List.{length-set, length-replicate, length_push, get_or-set_same, set-set, set-get_or}
 use Rattle.std.proofs.lemmas.Bool.{cond-true, and_from, le-leb}
 use Rattle.values.specs.Bytes.{over}
+use Rattle.stores.specs.Calls.{admission, appending, dropping}
 use Rattle.stores.specs.Contents.{Entry, entry, Contents, emptied, appended, dropped, block_of, without}
 use Rattle.stores.specs.Laws.{BlockSized, Lawful}
 use Rattle.stores.proofs.Entries.{Lacks, nothing_found, rising_all_up_to, lacks_if_below}
 use Rattle.entry_layout.specs.Layout.{block_at, capacity_of, entry_bytes, entry_in, with_entry, zeroed}
-use Rattle.stores.proofs.Kept.{Admitted, Lawful-appended, Lawful-dropped, Lawful-emptied}
+use Rattle.stores.proofs.Kept.{admitted, append_accepted, drop_accepted, Lawful-appended, Lawful-dropped, Lawful-emptied}
 use Rattle.slot_store.specs.Meaning.{contents_of}
 use Rattle.slot_store.specs.Sound.{Sound, state_of}
+use Rattle.slot_store.specs.State.{SlotState}
 use Rattle.slot_store.specs.declared.slots.SlotStore.TheInside.{Inside}
 use Rattle.slot_store.specs.Ranked.{placed, ranked}
 use Rattle.slot_store.specs.Search.{Finds, going_round, holds}
@@ -49,22 +51,24 @@ contents_of_relaid bytes after last new held r e =
 -- An entry appended to a store with these fields.
 
 pub record Appended (s : Inside) (after : List ℕ) (slot : ℕ) (e : Entry) : Type 0 where
-  pub contents : contents_in after e.number ≡ appended e.number e.block (contents_of (state_of s))
+  pub accepted : Ok (contents_in after e.number) ≡ appending e.number e.block (contents_of (state_of s))
   pub laid : LaidOut after
   pub counted : s.held + 1 ≡ length (contents_in after e.number).held
   pub lawful : Lawful (contents_in after e.number)
   pub filled : after ≡ slotted (set (slots_of s.bytes.now) slot (Some e)) (tail_of s.bytes.now)
 
-pub append_step : (s : Inside) (after : List ℕ) (slot : ℕ) (e : Entry) → Sound s → Admitted e.number e.block (length (contents_of (state_of s)).held) s.last (capacity_of (length s.bytes.now)) → e.number < 2 ^ 32
+pub append_step : (s : Inside) (after : List ℕ) (slot : ℕ) (e : Entry) → Sound s → Ok tt ≡ admission e.number e.block (length (contents_of (state_of s)).held) s.last (capacity_of (length s.bytes.now))
+    → e.number < 2 ^ 32
     → going_round (holds None) s.next (slots_of s.bytes.now) ≡ Some slot → after ≡ with_entry (slot * 69) e s.bytes.now → Appended s after slot e
-append_step store after slot e sound admitted narrow g w =
+append_step store after slot e sound admits narrow g w =
     let bytes = store.bytes.now in
     let last : ℕ = store.last in
     let next : ℕ = store.next in
     let laid = sound.laid in
     let l = sound.lawful in
-    let s = admitted.sized in
-    let above = admitted.above in
+    let a = (admitted e.number e.block (length (ranked (slots_of bytes))) last (capacity_of (length bytes)) tt tt admits).0 in
+    let s = a.sized in
+    let above = a.above in
     let n = count_of_slots (capacity_of (length bytes)) bytes in
     let p = round_some (holds None) next (slots_of bytes) slot None g in
     let i = p.0 in
@@ -94,18 +98,20 @@ append_step store after slot e sound admitted narrow g w =
     let j = length_push (ranked (slots_of bytes)) e in
     let held : length (contents_in after e.number).held ≡ length (ranked (slots_of bytes) ++ e ∷ []) = ap (λ (d : Contents). length d.held) contents in
     record {
-      contents = contents;
+      accepted = append_accepted (contents_in bytes last) (contents_in after e.number) e.number e.block (length (ranked (slots_of bytes))) (capacity_of (length bytes)) admits refl refl contents;
       laid = again.laid;
       counted = omega arith;
-      lawful = subst Lawful (sym contents) (Lawful-appended (contents_in bytes last) e.number e.block l narrow admitted);
+      lawful = subst Lawful (sym contents) (Lawful-appended (contents_in bytes last) e.number e.block l narrow a);
       filled = filled;
     }
 
 -- Where there is room, some slot is free.
-pub room_has_a_slot : (bytes : List ℕ) (next : ℕ) → length (ranked (slots_of bytes)) < capacity_of (length bytes) → going_round (holds None) next (slots_of bytes) ≡ None → ⊥
-room_has_a_slot bytes next h e =
-    let n = count_of_slots (capacity_of (length bytes)) bytes in
-    let t = all_taken (slots_of bytes) (round_none (holds None) next (slots_of bytes) e) in
+pub room_has_a_slot : (v : SlotState) (number : ℕ) (block : List ℕ) → Ok tt ≡ admission number block (length (contents_of v).held) v.last (contents_of v).capacity
+    → going_round (holds None) v.next (slots_of v.bytes) ≡ None → ⊥
+room_has_a_slot v number block admits e =
+    let h = (admitted number block (length (contents_of v).held) v.last (contents_of v).capacity tt tt admits).0.room in
+    let n = count_of_slots (capacity_of (length v.bytes)) v.bytes in
+    let t = all_taken (slots_of v.bytes) (round_none (holds None) v.next (slots_of v.bytes) e) in
     omega arith
 
 -- What a search by number found.
@@ -133,7 +139,7 @@ block_where_found bytes last number (Some slot) l f = (found_block bytes last nu
 -- An entry dropped from a store with these fields.
 
 pub record Dropped (s : Inside) (after : List ℕ) (slot number : ℕ) : Type 0 where
-  pub contents : contents_in after s.last ≡ dropped number (contents_of (state_of s))
+  pub accepted : Ok (contents_in after s.last) ≡ dropping number (contents_of (state_of s))
   pub laid : LaidOut after
   pub counted : s.held ≡ length (contents_in after s.last).held + 1
   pub lawful : Lawful (contents_in after s.last)
@@ -167,7 +173,7 @@ drop_step store after slot number sound h t w =
     ap length rank ∙ length-placed e (ranked new) ∙ ap (λ (ss : List (Option Entry)). suc (length (ranked ss))) (sym again.slots) in
     let k = sound.counted in
     record {
-      contents = contents;
+      accepted = drop_accepted (contents_in bytes last) (contents_in after last) number (found_block bytes last number slot l h t).1 contents;
       laid = again.laid;
       counted = omega arith;
       lawful = subst Lawful (sym contents) (Lawful-dropped (contents_in bytes last) number l);

@@ -1,8 +1,8 @@
 -- What a caller sees of a slot store.
 use Rattle.std.specs.Prelude.{ℕ, List}
 
--- The lent bytes, the last number accepted, and the slot above the one filled last. How many entries are held is what the
--- bytes say.
+-- The lent bytes, the last number accepted, and the slot above the one filled last. How many entries the store holds is
+-- no part of it, since the bytes tell.
 pub record SlotState : Type 0 where
   pub bytes : List ℕ
   pub last : ℕ

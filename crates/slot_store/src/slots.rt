@@ -2,8 +2,8 @@
 ghost use Rattle.std.specs.Prelude.{◌≡◌, ◌<◌, length, IfSome, Some, None, OnErr, OnOk};
 ghost use Rattle.stores.specs.Calls.{Appends, Drops};
 ghost use Rattle.stores.specs.Contents.{emptied, entry};
-ghost use Rattle.entry_layout.specs.Layout.{capacity_of};
 ghost use Rattle.stores.specs.Laws.{Lawful};
+ghost use Rattle.entry_layout.specs.Layout.{capacity_of};
 ghost use Rattle.slot_store.specs.Meaning.{contents_of, Filled, Freed, Zeroed};
 ghost use Rattle.slot_store.specs.Search.{Finds, NearestIsFound, going_round, holds, likely_slot};
 ghost use Rattle.slot_store.specs.Slots.{slots_of, slotted, tail_of, zeroed_slots};
@@ -67,11 +67,9 @@ impl<'a> SlotStore<'a> {
 
     // Where the store stands, as far as appending goes.
     fn standing(&self) -> Standing
-        ensures { result ≡ record {
-          held = length (contents_of self.now).held;
-          last = self.now.last;
-          capacity = capacity_of (length self.now.bytes);
-        } }
+        ensures held { result.held ≡ length (contents_of self.now).held }
+        ensures last { result.last ≡ self.now.last }
+        ensures capacity { result.capacity ≡ capacity_of (length self.now.bytes) }
     {
         Standing {
             held: self.held,

@@ -1,5 +1,4 @@
-use Rattle.std.proofs.Common.{◌≡◌, List, ℕ, ◌*◌, length, refl, ap, ◌∙◌}
-use Rattle.entry_layout.specs.Layout.{zeroed}
+use Rattle.std.proofs.Common.{refl}
 use Rattle.slot_store.proofs.Steps.{clear_step}
 use Rattle.slot_store.proofs.slots.SlotStore.new.Goals as goal
 
