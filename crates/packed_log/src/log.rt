@@ -4,13 +4,15 @@ ghost use Rattle.stores.specs.Calls.{Appends, Drops};
 ghost use Rattle.stores.specs.Contents.{emptied};
 ghost use Rattle.entry_layout.specs.Layout.{capacity_of};
 ghost use Rattle.packed_log.specs.Log.{packed, room};
-ghost use Rattle.packed_log.specs.Meaning.{contents_of, Sound, Laid, lawful_of};
+ghost use Rattle.stores.specs.Laws.{Lawful};
+ghost use Rattle.packed_log.specs.Meaning.{LogState, log_state, contents_of, Sound, Laid};
 
 use crate::moves::take_out;
 use crate::walk::place_of;
 use entry_layout::capacity::{HEADER_LENGTH, MAX_ENTRY_LENGTH, capacity_of};
 use entry_layout::entry::{entry_at, read_entry, write_entry};
 use entry_layout::parts::fill_zero;
+use std::marker::Model;
 use stores::admission::Standing;
 use stores::store::Store;
 use values::refusal::Refusal;
@@ -25,12 +27,20 @@ pub struct PackedLog<'a> {
     used: usize,
 }
 
+impl<'a> Model for PackedLog<'a> {
+    ghost Value = { LogState };
+
+    ghost view = { λ s. log_state s.bytes.now s.held s.last s.used };
+
+    ghost invariant = { λ s. Sound (log_state s.bytes.now s.held s.last s.used) };
+}
+
 impl<'a> PackedLog<'a> {
     /// An empty log in these bytes.
     pub fn new(bytes: &'a mut [u8]) -> PackedLog<'a>
         ensures contents { contents_of result ≡ emptied (capacity_of (length bytes.old)) }
-        ensures sound { Sound result }
-        ensures bytes { result.bytes.now ≡ replicate (room bytes.old) 0 ++ drop (room bytes.old) bytes.old }
+        ensures lawful { Lawful (contents_of result) }
+        ensures bytes { result.bytes ≡ replicate (room bytes.old) 0 ++ drop (room bytes.old) bytes.old }
     {
         let end = capacity_of(bytes.len()) * MAX_ENTRY_LENGTH;
         fill_zero(bytes, 0, end);
@@ -44,8 +54,8 @@ impl<'a> PackedLog<'a> {
 
     /// The lent bytes as they stand.
     pub fn bytes(&self) -> &[u8]
-        ensures value { result.now ≡ self.now.bytes.now }
-        ensures laid { Sound self.now → result.now ≡ packed (room result.now) (contents_of self.now).held (drop (room result.now) result.now) }
+        ensures value { result.now ≡ self.now.bytes }
+        ensures laid { result.now ≡ packed (room result.now) (contents_of self.now).held (drop (room result.now) result.now) }
     {
         self.bytes
     }
@@ -53,10 +63,6 @@ impl<'a> PackedLog<'a> {
 
 impl Store for PackedLog<'_> {
     ghost contents = { contents_of };
-
-    ghost sound = { Sound };
-
-    ghost lawful = { lawful_of };
 
     fn held(&self) -> usize {
         self.held
@@ -67,9 +73,9 @@ impl Store for PackedLog<'_> {
     }
 
     fn append(&mut self, number: u32, block: &[u8]) -> Result<(), Refusal>
-        ensures appends { Sound self.old → Appends number block.now (contents_of self.old) (contents_of self.new) result }
-        ensures sound { Sound self.old → Sound self.new }
-        ensures bytes { Sound self.old → Laid self.old self.new }
+        ensures appends { Appends number block.now (contents_of self.old) (contents_of self.new) result }
+        ensures lawful { Lawful (contents_of self.new) }
+        ensures bytes { Laid self.old self.new }
         ensures same { OnErr result (self.new ≡ self.old) }
     {
         let standing = Standing {
@@ -91,9 +97,9 @@ impl Store for PackedLog<'_> {
     }
 
     fn drop_entry(&mut self, number: u32) -> Result<(), Refusal>
-        ensures drops { Sound self.old → Drops number (contents_of self.old) (contents_of self.new) result }
-        ensures sound { Sound self.old → Sound self.new }
-        ensures bytes { Sound self.old → Laid self.old self.new }
+        ensures drops { Drops number (contents_of self.old) (contents_of self.new) result }
+        ensures lawful { Lawful (contents_of self.new) }
+        ensures bytes { Laid self.old self.new }
         ensures same { OnErr result (self.new ≡ self.old) }
     {
         let held = self.held;
@@ -113,7 +119,7 @@ impl Store for PackedLog<'_> {
 
     fn clear(&mut self)
         ensures cleared { contents_of self.new ≡ emptied (contents_of self.old).capacity }
-        ensures sound { Sound self.new }
+        ensures lawful { Lawful (contents_of self.new) }
         ensures bytes { Laid self.old self.new }
     {
         let end = self.capacity() * MAX_ENTRY_LENGTH;
