@@ -1,8 +1,7 @@
 //! Where the entries of a packed log lie.
 use crate::memory::{Placed, THREE, entry};
-use crate::script::{append, drop_entry, in_log, read};
+use crate::script::{Script, append, drop_entry, read, read_absent};
 use packed_log::log::PackedLog;
-use std::alloc::Global;
 use std::process::Abort;
 use std::test::Fail;
 use stores::store::Store;
@@ -38,51 +37,51 @@ fn a_log_byte_for_byte(rt: HostRuntime) -> Result<(), Fail> {
 }
 
 // Drops one of three entries.
-fn after_drop(rt: &impl Abort, heap: Global, number: u32, entries: &[Placed]) -> Result<(), Fail> {
+fn after_drop<R: Abort + AllocGlobal>(rt: &R, number: u32, entries: &[Placed]) -> Result<(), Fail> {
     let steps = [
-        append(1, 3, 0),
-        append(2, 5, 0),
-        append(3, 2, 0),
-        drop_entry(number, 0),
-        read(number, 0, 20),
+        append(1, 3),
+        append(2, 5),
+        append(3, 2),
+        drop_entry(number),
+        read_absent(number),
     ];
-    in_log(rt, heap, THREE, &steps, entries)
+    Script::new(THREE, &steps, entries).on_log(rt)
 }
 
 #[test]
 fn later_entries_move_down(rt: HostRuntime) -> Result<(), Fail> {
-    after_drop(&rt, rt.alloc(), 1, &[entry(0, 2, 5), entry(10, 3, 2)])?;
-    after_drop(&rt, rt.alloc(), 2, &[entry(0, 1, 3), entry(8, 3, 2)])?;
-    after_drop(&rt, rt.alloc(), 3, &[entry(0, 1, 3), entry(8, 2, 5)])
+    after_drop(&rt, 1, &[entry(0, 2, 5), entry(10, 3, 2)])?;
+    after_drop(&rt, 2, &[entry(0, 1, 3), entry(8, 3, 2)])?;
+    after_drop(&rt, 3, &[entry(0, 1, 3), entry(8, 2, 5)])
 }
 
 #[test]
 fn every_entry_dropped(rt: HostRuntime) -> Result<(), Fail> {
     let steps = [
-        append(1, 64, 0),
-        append(2, 64, 0),
-        append(3, 64, 0),
-        drop_entry(2, 0),
-        drop_entry(3, 0),
-        drop_entry(1, 0),
+        append(1, 64),
+        append(2, 64),
+        append(3, 64),
+        drop_entry(2),
+        drop_entry(3),
+        drop_entry(1),
     ];
-    in_log(&rt, rt.alloc(), THREE, &steps, &[])?;
-    let steps = [append(8, 1, 0), drop_entry(8, 0), append(9, 4, 0)];
-    in_log(&rt, rt.alloc(), THREE, &steps, &[entry(0, 9, 4)])
+    Script::new(THREE, &steps, &[]).on_log(&rt)?;
+    let steps = [append(8, 1), drop_entry(8), append(9, 4)];
+    Script::new(THREE, &steps, &[entry(0, 9, 4)]).on_log(&rt)
 }
 
 #[test]
 fn a_log_of_the_longest_entries(rt: HostRuntime) -> Result<(), Fail> {
     let steps = [
-        append(10, 64, 0),
-        append(20, 64, 0),
-        append(30, 64, 0),
-        drop_entry(20, 0),
-        append(40, 63, 0),
-        read(10, 64, 0),
-        read(30, 64, 0),
-        read(40, 63, 0),
+        append(10, 64),
+        append(20, 64),
+        append(30, 64),
+        drop_entry(20),
+        append(40, 63),
+        read(10, 64),
+        read(30, 64),
+        read(40, 63),
     ];
     let entries = [entry(0, 10, 64), entry(69, 30, 64), entry(138, 40, 63)];
-    in_log(&rt, rt.alloc(), THREE, &steps, &entries)
+    Script::new(THREE, &steps, &entries).on_log(&rt)
 }

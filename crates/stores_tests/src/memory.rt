@@ -41,68 +41,51 @@ pub fn entry(at: usize, number: u32, length: usize) -> Placed {
     Placed { at, number, length }
 }
 
-/// The bytes to lend, with old contents.
-pub fn lent(heap: Global, memory: Memory) -> Result<Vec<u8>, AllocError> {
-    vec![in heap; FILLER; memory.length]
-}
-
 /// The byte at this place of the block that the scripts give an entry.
 pub fn block_byte(number: u32, place: usize) -> u8 {
     let sum = u64::from(number).wrapping_mul(7).wrapping_add(place as u64);
     (sum & 0xff) as u8
 }
 
-// Adds this byte until there are so many.
-fn pad(bytes: &mut Vec<u8>, length: usize, byte: u8) -> Result<(), AllocError> {
-    let start = bytes.len();
-    for _place in start..length {
-        bytes.push(byte)?;
-    }
-    Ok(())
+/// The block that the scripts give an entry.
+pub fn block_of(heap: Global, number: u32, length: usize) -> Result<Vec<u8>, AllocError> {
+    (0..length)
+        .map(|place| block_byte(number, place))
+        .collect(heap)
 }
 
 // Adds the header and the block of an entry.
-fn lay(bytes: &mut Vec<u8>, entry: Placed) -> Result<(), AllocError> {
-    let number = entry.number;
-    bytes.push((number >> 24) as u8)?;
-    bytes.push((number >> 16 & 0xff) as u8)?;
-    bytes.push((number >> 8 & 0xff) as u8)?;
-    bytes.push((number & 0xff) as u8)?;
+fn lay(heap: Global, bytes: &mut Vec<u8>, entry: Placed) -> Result<(), AllocError> {
+    let block = block_of(heap, entry.number, entry.length)?;
+    bytes.extend_from_slice(&entry.number.to_be_bytes())?;
     bytes.push((entry.length & 0xff) as u8)?;
-    for place in 0..entry.length {
-        bytes.push(block_byte(number, place))?;
-    }
-    Ok(())
+    bytes.extend_from_slice(block.as_slice())
 }
 
-/// The lent bytes with these entries, which are given by rising place: zeros between and behind
-/// them, and the old contents behind the room.
-pub fn memory_with(
-    heap: Global,
-    memory: Memory,
-    entries: &[Placed],
-) -> Result<Vec<u8>, AllocError> {
-    let mut bytes = Vec::new(heap);
-    for entry in entries {
-        pad(&mut bytes, entry.at, 0)?;
-        lay(&mut bytes, *entry)?;
+impl Memory {
+    /// The bytes to lend, with old contents.
+    pub fn lent(self, heap: Global) -> Result<Vec<u8>, AllocError> {
+        vec![in heap; FILLER; self.length]
     }
-    pad(&mut bytes, memory.room, 0)?;
-    pad(&mut bytes, memory.length, FILLER)?;
-    Ok(bytes)
+
+    /// The lent bytes with these entries, which are given by rising place: zeros between and behind
+    /// them, and the old contents behind the room.
+    pub fn with(self, heap: Global, entries: &[Placed]) -> Result<Vec<u8>, AllocError> {
+        let mut bytes = Vec::new(heap);
+        for entry in entries {
+            bytes.resize(entry.at, 0)?;
+            lay(heap, &mut bytes, *entry)?;
+        }
+        bytes.resize(self.room, 0)?;
+        bytes.resize(self.length, FILLER)?;
+        Ok(bytes)
+    }
 }
 
 /// The first place at which bytes differ, or none where they are the same.
 pub fn first_difference(left: &[u8], right: &[u8]) -> Option<usize> {
     let common = left.len().min(right.len());
-    for place in 0..common {
-        if left[place] != right[place] {
-            return Some(place);
-        }
-    }
-    if left.len() == right.len() {
-        None
-    } else {
-        Some(common)
-    }
+    let differs = left.iter().zip(right).position(|(l, r)| l != r);
+    let longer = (left.len() != right.len()).then_some(common);
+    differs.or(longer)
 }

@@ -23,7 +23,6 @@ pub struct Owner<S: Store> {
 impl<S: Store> Owner<S> {
     /// Takes over a store, whatever it held, and clears it.
     pub fn new(mut store: S) -> Owner<S>
-        ensures sound { S.Store.sound result.store }
         ensures contents { S.Store.contents result.store ≡ emptied (S.Store.contents store).capacity }
         ensures next { result.next ≡ 1 }
     {
@@ -33,8 +32,7 @@ impl<S: Store> Owner<S> {
 
     /// Appends a block under the next number, and answers the number.
     pub fn add(&mut self, block: &[u8]) -> Result<u32, Refusal>
-        ensures sound { S.Store.sound self.old.store → S.Store.sound self.new.store }
-        ensures appends { S.Store.sound self.old.store → self.old.next < 1000 → answer (λ _. S.Store.contents self.new.store) result ≡ appending self.old.next block.now (S.Store.contents self.old.store) }
+        ensures appends { self.old.next < 1000 → answer (λ _. S.Store.contents self.new.store) result ≡ appending self.old.next block.now (S.Store.contents self.old.store) }
     {
         let number = self.next;
         if number >= LAST_NUMBER {
@@ -47,14 +45,14 @@ impl<S: Store> Owner<S> {
 
     /// How many more blocks there is room for.
     pub fn free(&self) -> usize
-        ensures { S.Store.sound self.now.store → result + length (S.Store.contents self.now.store).held ≡ (S.Store.contents self.now.store).capacity }
+        ensures { result + length (S.Store.contents self.now.store).held ≡ (S.Store.contents self.now.store).capacity }
     {
         self.store.capacity().saturating_sub(self.store.held())
     }
 
     /// Reads a block into the buffer, as the store does.
     pub fn read(&self, number: u32, buffer: &mut [u8]) -> Result<usize, Refusal>
-        ensures { S.Store.sound self.now.store → Reads number (S.Store.contents self.now.store) buffer.old buffer.new result }
+        ensures { Reads number (S.Store.contents self.now.store) buffer.old buffer.new result }
     {
         self.store.read(number, buffer)
     }

@@ -7,23 +7,16 @@ use std::test::Fail;
 use stores::store::Store;
 use values::refusal::Refusal;
 
-fn number_of(res: Result<u32, Refusal>) -> (u32, u8) {
-    match res {
-        Ok(number) => (number, 0),
-        Err(refusal) => (0, refusal.number()),
-    }
-}
-
 // Two blocks fill a store with room for two, and are read back.
 fn fill_and_read<S: Store + Drop>(rt: &impl Abort, store: S) -> Result<(), Fail> {
     let mut owner = Owner::new(store);
     let mut buffer = [0u8; 64];
     assert_eq!(rt; owner.free(), 2);
-    assert_eq!(rt; number_of(owner.add(b"Hei")), (1, 0));
-    assert_eq!(rt; number_of(owner.add(b"")), (0, 3));
-    assert_eq!(rt; number_of(owner.add(b"Hallo")), (2, 0));
+    assert_eq!(rt; owner.add(b"Hei"), Ok(1));
+    assert_eq!(rt; owner.add(b""), Err(Refusal::InvalidLength));
+    assert_eq!(rt; owner.add(b"Hallo"), Ok(2));
     assert_eq!(rt; owner.free(), 0);
-    assert_eq!(rt; number_of(owner.add(b"Salut")), (0, 19));
+    assert_eq!(rt; owner.add(b"Salut"), Err(Refusal::StoreFull));
     assert_eq!(rt; owner.read(2, &mut buffer)?, 5);
     assert!(rt; buffer.starts_with(b"Hallo\x00"));
     Ok(())

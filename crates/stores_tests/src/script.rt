@@ -1,8 +1,7 @@
 //! Scripts of calls with their answers, and what performs them on a store.
-use crate::memory::{Memory, Placed, block_byte, first_difference, lent, memory_with};
+use crate::memory::{Memory, Placed, block_byte, block_of, first_difference};
 use packed_log::log::PackedLog;
 use slot_store::slots::SlotStore;
-use std::alloc::{AllocError, Global};
 use std::fmt;
 use std::process::Abort;
 use std::test::Fail;
@@ -14,68 +13,63 @@ const UNREAD: u8 = 0xEE;
 
 #[derive(Clone, Copy)]
 enum Call {
-    Append,
-    Read,
-    ReadShort,
-    DropEntry,
+    Append { number: u32, length: usize },
+    Read { number: u32, length: usize },
+    ReadShort { number: u32 },
+    DropEntry { number: u32 },
     Clear,
 }
 
-/// A call, and the number of the refusal that it is to answer, or 0 where it is accepted.
+/// A call, and how it is to be refused, if it is.
 #[derive(Clone, Copy)]
 pub struct Step {
     call: Call,
-    number: u32,
-    length: usize,
-    answer: u8,
+    refusal: Option<Refusal>,
+}
+
+impl Step {
+    fn new(call: Call) -> Step {
+        Step {
+            call,
+            refusal: None,
+        }
+    }
+
+    /// The same call, which is to be refused.
+    pub fn refused(self, refusal: Refusal) -> Step {
+        Step {
+            call: self.call,
+            refusal: Some(refusal),
+        }
+    }
 }
 
 /// Appends a block of this length.
-pub fn append(number: u32, length: usize, answer: u8) -> Step {
-    Step {
-        call: Call::Append,
-        number,
-        length,
-        answer,
-    }
+pub fn append(number: u32, length: usize) -> Step {
+    Step::new(Call::Append { number, length })
 }
 
-/// Reads an entry whose block has this length. The length is 0 where the read is refused.
-pub fn read(number: u32, length: usize, answer: u8) -> Step {
-    Step {
-        call: Call::Read,
-        number,
-        length,
-        answer,
-    }
+/// Reads an entry whose block has this length.
+pub fn read(number: u32, length: usize) -> Step {
+    Step::new(Call::Read { number, length })
+}
+
+/// Reads an entry that is not there.
+pub fn read_absent(number: u32) -> Step {
+    read(number, 0).refused(Refusal::NoSuchEntry)
 }
 
 /// Reads into a buffer of 63 bytes, which is too short for any entry.
 pub fn read_short(number: u32) -> Step {
-    Step {
-        call: Call::ReadShort,
-        number,
-        length: 0,
-        answer: 4,
-    }
+    Step::new(Call::ReadShort { number }).refused(Refusal::BufferTooShort)
 }
 
-pub fn drop_entry(number: u32, answer: u8) -> Step {
-    Step {
-        call: Call::DropEntry,
-        number,
-        length: 0,
-        answer,
-    }
+pub fn drop_entry(number: u32) -> Step {
+    Step::new(Call::DropEntry { number })
 }
 
 pub fn clear() -> Step {
-    Step {
-        call: Call::Clear,
-        number: 0,
-        length: 0,
-        answer: 0,
-    }
+    Step::new(Call::Clear)
 }
 
 /// Where in a script a check stands.
@@ -108,89 +102,58 @@ impl Bytes for PackedLog<'_> {
     }
 }
 
-// The number of the refusal, or 0 where the call was accepted.
-fn answer_of(res: Result<(), Refusal>) -> u8 {
-    match res {
-        Ok(()) => 0,
-        Err(refusal) => refusal.number(),
-    }
-}
-
-// The length that was read, or 0, and the number of the refusal, or 0.
-fn length_and_answer(res: Result<usize, Refusal>) -> (usize, u8) {
-    match res {
-        Ok(length) => (length, 0),
-        Err(refusal) => (0, refusal.number()),
-    }
-}
-
-// The block that the scripts give an entry.
-fn block_of(heap: Global, number: u32, length: usize) -> Result<Vec<u8>, AllocError> {
-    let mut block = Vec::new(heap);
-    for place in 0..length {
-        block.push(block_byte(number, place))?;
-    }
-    Ok(block)
-}
-
 // Whether a buffer holds the block of an entry at its front and is untouched behind it.
 fn holds_block(buffer: &[u8], number: u32, length: usize) -> bool {
-    for (place, byte) in buffer.iter().enumerate() {
-        let expected = if place < length {
-            block_byte(number, place)
-        } else {
-            UNREAD
-        };
-        if *byte != expected {
-            return false;
-        }
-    }
-    true
+    buffer.iter().enumerate().all(|(place, byte)| {
+        *byte
+            == if place < length {
+                block_byte(number, place)
+            } else {
+                UNREAD
+            }
+    })
 }
 
-// Reads into a buffer: a block at its front, or where the read is refused nothing at all.
-fn read_into<S: Store>(rt: &impl Abort, store: &S, at: At<'_>, step: Step, buffer: &mut [u8]) {
+// Reads into a buffer: a block of this length at its front, or where the read is refused nothing.
+fn read_into<S: Store, R: Abort>(
+    rt: &R,
+    store: &S,
+    at: At<'_>,
+    number: u32,
+    answer: Result<usize, Refusal>,
+    buffer: &mut [u8],
+) {
     buffer.fill(UNREAD);
-    let result = length_and_answer(store.read(step.number, buffer));
-    assert_eq!(rt; result, (step.length, step.answer), "{at}");
+    assert_eq!(rt; store.read(number, buffer), answer, "{at}");
     assert!(rt;
-        holds_block(buffer, step.number, step.length),
+        holds_block(buffer, number, answer.unwrap_or(0)),
         "what the buffer holds: {at}"
     );
 }
 
-// Reads into a buffer that is just long enough and into a longer one.
-fn read_twice<S: Store>(rt: &impl Abort, store: &S, at: At<'_>, step: Step) {
-    let mut just_enough = [0u8; 64];
-    read_into(rt, store, at, step, &mut just_enough);
-    let mut longer = [0u8; 70];
-    read_into(rt, store, at, step, &mut longer);
-}
-
-fn read_too_short<S: Store>(rt: &impl Abort, store: &S, at: At<'_>, step: Step) {
-    let mut too_short = [0u8; 63];
-    read_into(rt, store, at, step, &mut too_short);
-}
-
 // Makes the call and checks its answer.
-fn make_call<S: Store>(
-    rt: &impl Abort,
-    heap: Global,
+fn make_call<S: Store, R: Abort + AllocGlobal>(
+    rt: &R,
     store: &mut S,
     at: At<'_>,
     step: Step,
 ) -> Result<(), Fail> {
+    let answer = step.refusal.map_or(Ok(()), Err);
     match step.call {
-        Call::Append => {
-            let block = block_of(heap, step.number, step.length)?;
-            let result = store.append(step.number, block.as_slice());
-            assert_eq!(rt; answer_of(result), step.answer, "{at}");
+        Call::Append { number, length } => {
+            let block = block_of(rt.alloc(), number, length)?;
+            assert_eq!(rt; store.append(number, block.as_slice()), answer, "{at}");
         }
-        Call::Read => read_twice(rt, store, at, step),
-        Call::ReadShort => read_too_short(rt, store, at, step),
-        Call::DropEntry => {
-            let result = store.drop_entry(step.number);
-            assert_eq!(rt; answer_of(result), step.answer, "{at}");
+        Call::Read { number, length } => {
+            let answer = answer.map(|()| length);
+            read_into(rt, store, at, number, answer, &mut [0u8; 64]);
+            read_into(rt, store, at, number, answer, &mut [0u8; 70]);
+        }
+        Call::ReadShort { number } => {
+            read_into(rt, store, at, number, answer.map(|()| 0), &mut [0u8; 63]);
+        }
+        Call::DropEntry { number } => {
+            assert_eq!(rt; store.drop_entry(number), answer, "{at}");
         }
         Call::Clear => {
             store.clear();
@@ -201,16 +164,15 @@ fn make_call<S: Store>(
 }
 
 // Makes a call that is to be refused, and checks that it alters nothing.
-fn refused_call<S: Store + Bytes>(
-    rt: &impl Abort,
-    heap: Global,
+fn refused_call<S: Store + Bytes, R: Abort + AllocGlobal>(
+    rt: &R,
     store: &mut S,
     at: At<'_>,
     step: Step,
 ) -> Result<(), Fail> {
-    let before = store.seen().to_vec(heap)?;
+    let before = store.seen().to_vec(rt.alloc())?;
     let held = store.held();
-    make_call(rt, heap, store, at, step)?;
+    make_call(rt, store, at, step)?;
     assert_eq!(rt;
         first_difference(store.seen(), before.as_slice()),
         None,
@@ -220,107 +182,81 @@ fn refused_call<S: Store + Bytes>(
     Ok(())
 }
 
-fn perform<S: Store + Bytes>(
-    rt: &impl Abort,
-    heap: Global,
-    store: &mut S,
-    at: At<'_>,
-    step: Step,
-) -> Result<(), Fail> {
-    if step.answer == 0 {
-        make_call(rt, heap, store, at, step)
-    } else {
-        refused_call(rt, heap, store, at, step)
+/// Calls on a new store over such memory, and where the entries lie in the end.
+#[derive(Clone, Copy)]
+pub struct Script<'a> {
+    memory: Memory,
+    steps: &'a [Step],
+    entries: &'a [Placed],
+}
+
+impl<'a> Script<'a> {
+    pub fn new(memory: Memory, steps: &'a [Step], entries: &'a [Placed]) -> Script<'a> {
+        Script {
+            memory,
+            steps,
+            entries,
+        }
     }
-}
 
-// Performs every step, and then checks where the entries lie.
-fn run<S: Store + Bytes>(
-    rt: &impl Abort,
-    heap: Global,
-    name: &str,
-    store: &mut S,
-    memory: Memory,
-    steps: &[Step],
-    entries: &[Placed],
-) -> Result<(), Fail> {
-    assert_eq!(rt; store.capacity(), memory.capacity, "{name}");
-    assert_eq!(rt; store.held(), 0, "{name}");
-    for (place, step) in steps.iter().enumerate() {
-        let at = At {
-            store: name,
-            step: place,
-        };
-        perform(rt, heap, store, at, *step)?;
+    // Performs every step, and then checks where the entries lie.
+    fn run<S: Store + Bytes, R: Abort + AllocGlobal>(
+        self,
+        rt: &R,
+        name: &str,
+        store: &mut S,
+    ) -> Result<(), Fail> {
+        assert_eq!(rt; store.capacity(), self.memory.capacity, "{name}");
+        assert_eq!(rt; store.held(), 0, "{name}");
+        for (place, step) in self.steps.iter().enumerate() {
+            let at = At {
+                store: name,
+                step: place,
+            };
+            match step.refusal {
+                Some(_) => refused_call(rt, store, at, *step)?,
+                None => make_call(rt, store, at, *step)?,
+            }
+        }
+        let expected = self.memory.with(rt.alloc(), self.entries)?;
+        assert_eq!(rt;
+            first_difference(store.seen(), expected.as_slice()),
+            None,
+            "the first byte that is not as expected {name}"
+        );
+        assert_eq!(rt; store.held(), self.entries.len(), "{name}");
+        Ok(())
     }
-    let expected = memory_with(heap, memory, entries)?;
-    assert_eq!(rt;
-        first_difference(store.seen(), expected.as_slice()),
-        None,
-        "the first byte that is not as expected {name}"
-    );
-    assert_eq!(rt; store.held(), entries.len(), "{name}");
-    Ok(())
-}
 
-/// Runs a script on a slot store over these bytes.
-pub fn slots_over(
-    rt: &impl Abort,
-    heap: Global,
-    bytes: &mut [u8],
-    memory: Memory,
-    steps: &[Step],
-    entries: &[Placed],
-) -> Result<(), Fail> {
-    let mut store = SlotStore::new(bytes);
-    run(rt, heap, "in slots", &mut store, memory, steps, entries)
-}
+    /// Runs on a slot store over these bytes.
+    pub fn on_slots_over<R: Abort + AllocGlobal>(
+        self,
+        rt: &R,
+        bytes: &mut [u8],
+    ) -> Result<(), Fail> {
+        self.run(rt, "in slots", &mut SlotStore::new(bytes))
+    }
 
-/// Runs a script on a packed log over these bytes.
-pub fn log_over(
-    rt: &impl Abort,
-    heap: Global,
-    bytes: &mut [u8],
-    memory: Memory,
-    steps: &[Step],
-    entries: &[Placed],
-) -> Result<(), Fail> {
-    let mut store = PackedLog::new(bytes);
-    run(rt, heap, "in a log", &mut store, memory, steps, entries)
-}
+    /// Runs on a packed log over these bytes.
+    pub fn on_log_over<R: Abort + AllocGlobal>(self, rt: &R, bytes: &mut [u8]) -> Result<(), Fail> {
+        self.run(rt, "in a log", &mut PackedLog::new(bytes))
+    }
 
-/// Runs a script on a slot store over bytes with old contents.
-pub fn in_slots(
-    rt: &impl Abort,
-    heap: Global,
-    memory: Memory,
-    steps: &[Step],
-    entries: &[Placed],
-) -> Result<(), Fail> {
-    let mut bytes = lent(heap, memory)?;
-    slots_over(rt, heap, bytes.as_mut_slice(), memory, steps, entries)
-}
+    /// Runs on a slot store over bytes with old contents.
+    pub fn on_slots<R: Abort + AllocGlobal>(self, rt: &R) -> Result<(), Fail> {
+        let mut bytes = self.memory.lent(rt.alloc())?;
+        self.on_slots_over(rt, bytes.as_mut_slice())
+    }
 
-/// Runs a script on a packed log over bytes with old contents.
-pub fn in_log(
-    rt: &impl Abort,
-    heap: Global,
-    memory: Memory,
-    steps: &[Step],
-    entries: &[Placed],
-) -> Result<(), Fail> {
-    let mut bytes = lent(heap, memory)?;
-    log_over(rt, heap, bytes.as_mut_slice(), memory, steps, entries)
-}
+    /// Runs on a packed log over bytes with old contents.
+    pub fn on_log<R: Abort + AllocGlobal>(self, rt: &R) -> Result<(), Fail> {
+        let mut bytes = self.memory.lent(rt.alloc())?;
+        self.on_log_over(rt, bytes.as_mut_slice())
+    }
 
-/// Runs a script on both stores. Its entries come to lie at the same places in both.
-pub fn in_both(
-    rt: &impl Abort,
-    heap: Global,
-    memory: Memory,
-    steps: &[Step],
-    entries: &[Placed],
-) -> Result<(), Fail> {
-    in_slots(rt, heap, memory, steps, entries)?;
-    in_log(rt, heap, memory, steps, entries)
+    /// Runs on both stores. The entries come to lie at the same places in both.
+    pub fn on_both<R: Abort + AllocGlobal>(self, rt: &R) -> Result<(), Fail> {
+        self.on_slots(rt)?;
+        self.on_log(rt)
+    }
 }

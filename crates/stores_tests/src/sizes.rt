@@ -1,60 +1,61 @@
 //! Memory of every kind of length, on both stores.
 use crate::memory::{Memory, entry};
-use crate::script::{Step, append, clear, drop_entry, in_both, in_log, in_slots, read, read_short};
+use crate::script::{Script, Step, append, clear, drop_entry, read, read_absent, read_short};
 use std::alloc::{AllocError, Global};
 use std::process::Abort;
 use std::test::Fail;
+use values::refusal::Refusal;
 
 // Bytes that have no room for an entry.
-fn no_room(rt: &impl Abort, heap: Global, length: usize) -> Result<(), Fail> {
+fn no_room<R: Abort + AllocGlobal>(rt: &R, length: usize) -> Result<(), Fail> {
     let memory = Memory {
         length,
         capacity: 0,
         room: 0,
     };
     let steps = [
-        append(1, 0, 3),
-        append(0, 1, 18),
-        append(1, 1, 19),
+        append(1, 0).refused(Refusal::InvalidLength),
+        append(0, 1).refused(Refusal::EntryNotAboveLast),
+        append(1, 1).refused(Refusal::StoreFull),
         read_short(1),
-        read(1, 0, 20),
-        drop_entry(1, 20),
+        read_absent(1),
+        drop_entry(1).refused(Refusal::NoSuchEntry),
         clear(),
-        append(1, 64, 19),
+        append(1, 64).refused(Refusal::StoreFull),
     ];
-    in_both(rt, heap, memory, &steps, &[])
+    Script::new(memory, &steps, &[]).on_both(rt)
 }
 
 #[test]
 fn room_for_none(rt: HostRuntime) -> Result<(), Fail> {
-    no_room(&rt, rt.alloc(), 0)?;
-    no_room(&rt, rt.alloc(), 1)?;
-    no_room(&rt, rt.alloc(), 68)
+    no_room(&rt, 0)?;
+    no_room(&rt, 1)?;
+    no_room(&rt, 68)
 }
 
 // Bytes that have room for one entry.
-fn one_room(rt: &impl Abort, heap: Global, length: usize) -> Result<(), Fail> {
+fn one_room<R: Abort + AllocGlobal>(rt: &R, length: usize) -> Result<(), Fail> {
     let memory = Memory {
         length,
         capacity: 1,
         room: 69,
     };
     let steps = [
-        append(1, 1, 0),
-        append(2, 1, 19),
-        drop_entry(1, 0),
-        append(2, 64, 0),
-        append(3, 1, 19),
-        read(2, 64, 0),
+        append(1, 1),
+        append(2, 1).refused(Refusal::StoreFull),
+        drop_entry(1),
+        append(2, 64),
+        append(3, 1).refused(Refusal::StoreFull),
+        read(2, 64),
     ];
-    in_both(rt, heap, memory, &steps, &[entry(0, 2, 64)])
+    Script::new(memory, &steps, &[entry(0, 2, 64)]).on_both(rt)
 }
 
 #[test]
 fn room_for_one(rt: HostRuntime) -> Result<(), Fail> {
-    one_room(&rt, rt.alloc(), 69)?;
-    one_room(&rt, rt.alloc(), 70)?;
-    one_room(&rt, rt.alloc(), 137)
+    one_room(&rt, 69)?;
+    one_room(&rt, 70)?;
+    one_room(&rt, 137)
 }
 
 #[test]
@@ -65,19 +66,13 @@ fn room_for_two(rt: HostRuntime) -> Result<(), Fail> {
         room: 138,
     };
     let steps = [
-        append(1, 64, 0),
-        append(2, 64, 0),
-        append(3, 64, 19),
-        read(1, 64, 0),
-        read(2, 64, 0),
+        append(1, 64),
+        append(2, 64),
+        append(3, 64).refused(Refusal::StoreFull),
+        read(1, 64),
+        read(2, 64),
     ];
-    in_both(
-        &rt,
-        rt.alloc(),
-        memory,
-        &steps,
-        &[entry(0, 1, 64), entry(69, 2, 64)],
-    )
+    Script::new(memory, &steps, &[entry(0, 1, 64), entry(69, 2, 64)]).on_both(&rt)
 }
 
 #[test]
@@ -87,13 +82,13 @@ fn room_near_the_most(rt: HostRuntime) -> Result<(), Fail> {
         capacity: 4095,
         room: 282_555,
     };
-    in_both(&rt, rt.alloc(), one_byte_less, &[], &[])?;
+    Script::new(one_byte_less, &[], &[]).on_both(&rt)?;
     let exact = Memory {
         length: 282_624,
         capacity: 4096,
         room: 282_624,
     };
-    in_both(&rt, rt.alloc(), exact, &[], &[])
+    Script::new(exact, &[], &[]).on_both(&rt)
 }
 
 // More bytes than the largest store has room for: 4098 entries would fit.
@@ -110,23 +105,24 @@ fn varied(number: u32) -> usize {
 
 // Fills the largest store, reads some of it, and takes its first entry out for another one.
 fn filling(heap: Global) -> Result<Vec<Step>, AllocError> {
-    let mut steps = Vec::new(heap);
-    for number in 1..4097u32 {
-        steps.push(append(number, varied(number), 0))?;
-    }
-    steps.push(append(4097, 1, 19))?;
-    steps.push(read(1, 2, 0))?;
-    steps.push(read(63, 64, 0))?;
-    steps.push(read(2048, 1, 0))?;
-    steps.push(read(4095, 64, 0))?;
-    steps.push(read(4096, 1, 0))?;
-    steps.push(read(4097, 0, 20))?;
-    steps.push(drop_entry(1, 0))?;
-    steps.push(append(4097, 33, 0))?;
-    steps.push(append(4098, 1, 19))?;
-    steps.push(read(2, 3, 0))?;
-    steps.push(read(4096, 1, 0))?;
-    steps.push(read(4097, 33, 0))?;
+    let mut steps: Vec<Step> = (1..4097u32)
+        .map(|number| append(number, varied(number)))
+        .collect(heap)?;
+    steps.extend_from_slice(&[
+        append(4097, 1).refused(Refusal::StoreFull),
+        read(1, 2),
+        read(63, 64),
+        read(2048, 1),
+        read(4095, 64),
+        read(4096, 1),
+        read_absent(4097),
+        drop_entry(1),
+        append(4097, 33),
+        append(4098, 1).refused(Refusal::StoreFull),
+        read(2, 3),
+        read(4096, 1),
+        read(4097, 33),
+    ])?;
     Ok(steps)
 }
 
@@ -138,7 +134,7 @@ fn the_most_slots(rt: HostRuntime) -> Result<(), Fail> {
     for slot in 1..4096u32 {
         entries.push(entry(slot as usize * 69, slot + 1, varied(slot + 1)))?;
     }
-    in_slots(&rt, rt.alloc(), LARGE, steps.as_slice(), entries.as_slice())
+    Script::new(LARGE, steps.as_slice(), entries.as_slice()).on_slots(&rt)
 }
 
 #[test]
@@ -151,5 +147,5 @@ fn the_most_in_a_log(rt: HostRuntime) -> Result<(), Fail> {
         at = at.saturating_add(5).saturating_add(varied(number));
     }
     entries.push(entry(at, 4097, 33))?;
-    in_log(&rt, rt.alloc(), LARGE, steps.as_slice(), entries.as_slice())
+    Script::new(LARGE, steps.as_slice(), entries.as_slice()).on_log(&rt)
 }

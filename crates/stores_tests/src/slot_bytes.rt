@@ -1,17 +1,10 @@
 //! Which slots the entries of a slot store take.
 use crate::memory::{FOUR, THREE, entry};
-use crate::script::{append, drop_entry, in_slots, read};
+use crate::script::{Script, append, drop_entry, read};
 use slot_store::slots::SlotStore;
 use std::test::Fail;
 use stores::store::Store;
-
-// The bytes from a place on, or none where there are not so many.
-fn bytes_from(bytes: &[u8], place: usize) -> &[u8] {
-    if place > bytes.len() {
-        return &[];
-    }
-    &bytes[place..]
-}
+use values::refusal::Refusal;
 
 #[test]
 fn slots_byte_for_byte(rt: HostRuntime) -> Result<(), Fail> {
@@ -24,7 +17,8 @@ fn slots_byte_for_byte(rt: HostRuntime) -> Result<(), Fail> {
             .starts_with(b"\x00\x00\x00\x01\x03abc\x00\x00")
     );
     store.append(0x0102_0304, b"z")?;
-    assert!(rt; bytes_from(store.bytes(), 69).starts_with(b"\x01\x02\x03\x04\x01z\x00\x00"));
+    let second = store.bytes().get(69..);
+    assert!(rt; second.is_some_and(|slot| slot.starts_with(b"\x01\x02\x03\x04\x01z\x00\x00")));
     assert!(rt; store.bytes().ends_with(b"\x00\x00\xCD\xCD"));
     store.drop_entry(1)?;
     assert!(rt;
@@ -44,51 +38,51 @@ fn slots_byte_for_byte(rt: HostRuntime) -> Result<(), Fail> {
 #[test]
 fn slots_going_round(rt: HostRuntime) -> Result<(), Fail> {
     let steps = [
-        append(1, 3, 0),
-        append(2, 3, 0),
-        append(3, 3, 0),
-        drop_entry(1, 0),
-        drop_entry(2, 0),
-        append(4, 5, 0),
-        append(5, 6, 0),
-        read(3, 3, 0),
-        read(4, 5, 0),
-        read(5, 6, 0),
+        append(1, 3),
+        append(2, 3),
+        append(3, 3),
+        drop_entry(1),
+        drop_entry(2),
+        append(4, 5),
+        append(5, 6),
+        read(3, 3),
+        read(4, 5),
+        read(5, 6),
     ];
     let entries = [entry(0, 4, 5), entry(69, 5, 6), entry(138, 3, 3)];
-    in_slots(&rt, rt.alloc(), THREE, &steps, &entries)
+    Script::new(THREE, &steps, &entries).on_slots(&rt)
 }
 
 #[test]
 fn slots_above_before_slots_below(rt: HostRuntime) -> Result<(), Fail> {
     let steps = [
-        append(1, 3, 0),
-        append(2, 3, 0),
-        append(3, 3, 0),
-        drop_entry(2, 0),
-        append(4, 5, 0),
-        read(4, 5, 0),
+        append(1, 3),
+        append(2, 3),
+        append(3, 3),
+        drop_entry(2),
+        append(4, 5),
+        read(4, 5),
     ];
     let entries = [entry(0, 1, 3), entry(138, 3, 3), entry(207, 4, 5)];
-    in_slots(&rt, rt.alloc(), FOUR, &steps, &entries)
+    Script::new(FOUR, &steps, &entries).on_slots(&rt)
 }
 
 #[test]
 fn slots_that_are_passed_over(rt: HostRuntime) -> Result<(), Fail> {
     let steps = [
-        append(1, 3, 0),
-        append(2, 3, 0),
-        append(3, 3, 0),
-        append(4, 3, 0),
-        drop_entry(1, 0),
-        drop_entry(3, 0),
-        append(5, 9, 0),
-        append(6, 9, 0),
-        append(7, 9, 19),
-        read(2, 3, 0),
-        read(4, 3, 0),
-        read(5, 9, 0),
-        read(6, 9, 0),
+        append(1, 3),
+        append(2, 3),
+        append(3, 3),
+        append(4, 3),
+        drop_entry(1),
+        drop_entry(3),
+        append(5, 9),
+        append(6, 9),
+        append(7, 9).refused(Refusal::StoreFull),
+        read(2, 3),
+        read(4, 3),
+        read(5, 9),
+        read(6, 9),
     ];
     let entries = [
         entry(0, 5, 9),
@@ -96,20 +90,20 @@ fn slots_that_are_passed_over(rt: HostRuntime) -> Result<(), Fail> {
         entry(138, 6, 9),
         entry(207, 4, 3),
     ];
-    in_slots(&rt, rt.alloc(), FOUR, &steps, &entries)
+    Script::new(FOUR, &steps, &entries).on_slots(&rt)
 }
 
 #[test]
 fn the_slot_filled_last_is_left(rt: HostRuntime) -> Result<(), Fail> {
     let steps = [
-        append(1, 3, 0),
-        append(2, 64, 0),
-        drop_entry(2, 0),
-        append(3, 3, 0),
-        drop_entry(3, 0),
-        append(4, 1, 0),
+        append(1, 3),
+        append(2, 64),
+        drop_entry(2),
+        append(3, 3),
+        drop_entry(3),
+        append(4, 1),
     ];
     let entries = [entry(0, 1, 3), entry(69, 4, 1)];
     // Slot 2 was filled last, and slot 0 is taken.
-    in_slots(&rt, rt.alloc(), THREE, &steps, &entries)
+    Script::new(THREE, &steps, &entries).on_slots(&rt)
 }
