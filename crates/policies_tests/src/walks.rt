@@ -1,45 +1,45 @@
 //! The fast search for the first kept moment, compared with a walk over the moments.
-use crate::examples::{at, first, halving, window};
+use crate::examples::{first, halving, window};
 use policies::policy::Policy;
 use policies::retention::Retention;
+use std::test::Fail;
+use values::moment::Moment;
+use values::refusal::Refusal;
 
 // The first kept moment from `from` to `present`, found by a walk.
-fn walked(policy: Retention, from: u32, present: u32) -> Option<u32> {
-    for t in from..present.saturating_add(1) {
-        if policy.keeps(at(t), at(present)) {
-            return Some(t);
-        }
-    }
-    None
+fn walked(policy: Retention, from: u32, present: u32) -> Result<Option<u32>, Refusal> {
+    let present = Moment::try_from(present)?;
+    let first = (from..=present.number())
+        .filter_map(|t| Moment::try_from(t).ok())
+        .find(|t| policy.keeps(*t, present));
+    Ok(first.map(Moment::number))
 }
 
 // Whether both searches agree from every moment up to one above `present`.
 fn agree(policy: Retention, present: u32) -> bool {
-    for from in 0..present.saturating_add(2) {
-        if first(policy, from, present) != walked(policy, from, present) {
-            return false;
-        }
-    }
-    true
+    (0..=present.saturating_add(1))
+        .all(|from| first(policy, from, present) == walked(policy, from, present))
 }
 
 #[test]
-fn halving_as_walked(rt: HostRuntime) {
+fn halving_as_walked(rt: HostRuntime) -> Result<(), Fail> {
     for reach in 0..6u32 {
         for present in 0..70u32 {
-            assert!(rt; agree(halving(reach), present));
+            assert!(rt; agree(halving(reach)?, present));
         }
     }
-    assert!(rt; agree(halving(16), 1000));
-    assert!(rt; agree(halving(1024), 1500));
+    assert!(rt; agree(halving(16)?, 1000));
+    assert!(rt; agree(halving(1024)?, 1500));
+    Ok(())
 }
 
 #[test]
-fn windows_as_walked(rt: HostRuntime) {
+fn windows_as_walked(rt: HostRuntime) -> Result<(), Fail> {
     for length in 0..6u32 {
         for present in 0..12u32 {
-            assert!(rt; agree(window(length), present));
+            assert!(rt; agree(window(length)?, present));
         }
     }
     assert!(rt; agree(Retention::All, 12));
+    Ok(())
 }

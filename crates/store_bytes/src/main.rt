@@ -7,9 +7,9 @@ mod row;
 use packed_log::log::PackedLog;
 use row::{ROW_LENGTH, Row};
 use slot_store::slots::SlotStore;
+use std::fmt;
 use std::io;
 use stores::store::Store;
-use values::refusal::Refusal;
 
 // Room for three entries, and two bytes that no store touches.
 const MEMORY: usize = 3 * 69 + 2;
@@ -26,52 +26,79 @@ fn show_memory(rt: &HostRuntime, memory: &[u8]) -> io::Result<()> {
     Ok(())
 }
 
-// What was asked and answered, and the memory afterwards.
-fn show(
-    rt: &HostRuntime,
-    call: &str,
-    answer: Result<(), Refusal>,
-    memory: &[u8],
-) -> io::Result<()> {
-    match answer {
-        Ok(()) => println!(rt; "{call}")?,
-        Err(refusal) => println!(rt; "{call}: refused {refusal}")?,
+/// A call on a store.
+#[derive(Clone, Copy)]
+enum Call<'a> {
+    Append(u32, &'a [u8]),
+    Drop(u32),
+}
+
+impl fmt::Display for Call<'_> {
+    fn fmt<W: fmt::Write>(&self, f: &mut fmt::Formatter<W>) -> fmt::Result {
+        match *self {
+            Call::Append(number, _) => write!(f, "append {number}"),
+            Call::Drop(number) => write!(f, "drop {number}"),
+        }
     }
-    show_memory(rt, memory)
+}
+
+/// A store whose memory can be shown.
+trait Shown: Store {
+    fn memory(&self) -> &[u8];
+}
+
+impl Shown for SlotStore<'_> {
+    fn memory(&self) -> &[u8] {
+        self.bytes()
+    }
+}
+
+impl Shown for PackedLog<'_> {
+    fn memory(&self) -> &[u8] {
+        self.bytes()
+    }
+}
+
+// Makes each call, and shows what was asked and answered and the memory afterwards.
+fn show_calls<S: Shown>(rt: &HostRuntime, store: &mut S, calls: &[Call<'_>]) -> io::Result<()> {
+    show_memory(rt, store.memory())?;
+    for call in calls {
+        let answer = match *call {
+            Call::Append(number, block) => store.append(number, block),
+            Call::Drop(number) => store.drop_entry(number),
+        };
+        match answer {
+            Ok(()) => println!(rt; "{call}")?,
+            Err(refusal) => println!(rt; "{call}: refused {refusal}")?,
+        }
+        show_memory(rt, store.memory())?;
+    }
+    Ok(())
 }
 
 fn show_slots(rt: &HostRuntime) -> io::Result<()> {
-    let mut memory = [0xEEu8; MEMORY];
-    let mut store = SlotStore::new(&mut memory);
-    show(rt, "a new slot store", Ok(()), store.bytes())?;
-    let answer = store.append(1, b"Hei");
-    show(rt, "append 1", answer, store.bytes())?;
-    let answer = store.append(2, b"Hallo");
-    show(rt, "append 2", answer, store.bytes())?;
-    let answer = store.append(3, b"Salut");
-    show(rt, "append 3", answer, store.bytes())?;
-    let answer = store.append(4, b"Ciao");
-    show(rt, "append 4", answer, store.bytes())?;
-    let answer = store.drop_entry(2);
-    show(rt, "drop 2", answer, store.bytes())?;
-    let answer = store.append(4, b"Ciao");
-    show(rt, "append 4", answer, store.bytes())
+    println!(rt; "a new slot store")?;
+    let calls = [
+        Call::Append(1, b"Hei"),
+        Call::Append(2, b"Hallo"),
+        Call::Append(3, b"Salut"),
+        Call::Append(4, b"Ciao"),
+        Call::Drop(2),
+        Call::Append(4, b"Ciao"),
+    ];
+    show_calls(rt, &mut SlotStore::new(&mut [0xEEu8; MEMORY]), &calls)
 }
 
 fn show_log(rt: &HostRuntime) -> io::Result<()> {
-    let mut memory = [0xEEu8; MEMORY];
-    let mut log = PackedLog::new(&mut memory);
-    show(rt, "a new packed log", Ok(()), log.bytes())?;
-    let answer = log.append(1, b"Hei");
-    show(rt, "append 1", answer, log.bytes())?;
-    let answer = log.append(2, b"Hallo");
-    show(rt, "append 2", answer, log.bytes())?;
-    let answer = log.append(3, b"Salut");
-    show(rt, "append 3", answer, log.bytes())?;
-    let answer = log.drop_entry(2);
-    show(rt, "drop 2", answer, log.bytes())?;
-    let answer = log.append(4, b"Ciao");
-    show(rt, "append 4", answer, log.bytes())
+    println!(rt; "a new packed log")?;
+    let calls = [
+        Call::Append(1, b"Hei"),
+        Call::Append(2, b"Hallo"),
+        Call::Append(3, b"Salut"),
+        Call::Drop(2),
+        Call::Append(4, b"Ciao"),
+    ];
+    show_calls(rt, &mut PackedLog::new(&mut [0xEEu8; MEMORY]), &calls)
 }
 
 fn main(rt: HostRuntime) -> io::Result<()> {

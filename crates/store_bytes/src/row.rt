@@ -13,12 +13,7 @@ pub struct Row<'a> {
 impl Row<'_> {
     /// Whether every byte is zero.
     pub fn is_zero(&self) -> bool {
-        for byte in self.bytes {
-            if *byte != 0 {
-                return false;
-            }
-        }
-        true
+        self.bytes.iter().all(|byte| *byte == 0)
     }
 }
 

@@ -105,12 +105,8 @@ impl Bytes for PackedLog<'_> {
 // Whether a buffer holds the block of an entry at its front and is untouched behind it.
 fn holds_block(buffer: &[u8], number: u32, length: usize) -> bool {
     buffer.iter().enumerate().all(|(place, byte)| {
-        *byte
-            == if place < length {
-                block_byte(number, place)
-            } else {
-                UNREAD
-            }
+        let block = place < length;
+        *byte == if block { block_byte(number, place) } else { UNREAD }
     })
 }
 
