@@ -1,9 +1,9 @@
 -- Entries read from bytes, and bytes written of entries.
-use Rattle.std.proofs.Common.{◌≡◌, ℕ, ◌+◌, ◌-◌, ◌*◌, ◌/◌, ◌%◌, ◌^◌, ◌<◌, ◌≤◌, leb, ◌⊎◌, List, [], ◌∷◌, ◌++◌, length, get_or, take, drop, set, Some, None, sym, refl, ap, ◌∙◌, ap₂, inl, inr, add-zero, arith, length-append}
+use Rattle.std.proofs.Common.{◌≡◌, ℕ, ◌+◌, ◌*◌, ◌/◌, ◌%◌, ◌^◌, ◌<◌, ◌≤◌, List, [], ◌∷◌, ◌++◌, length, get_or, take, drop, set, Some, sym, refl, ap, ◌∙◌, ap₂, arith, length-append}
 use native.Mathlib.Nat.{div-div-eq-div-mul}
 use borrow.Rule.Slice.PartMut.{put_mid}
-use Rattle.std.proofs.lemmas.List.{get_or-drop, get_or_past, drop-drop, length-drop, take_at}
-use Rattle.std.proofs.lemmas.Bool.{cond-true, cond-false, and_from, and_left, and_right, le-leb, lt-leb}
+use Rattle.std.proofs.lemmas.List.{take_at}
+use Rattle.std.proofs.lemmas.Bool.{cond-true, and_from, le-leb}
 use Rattle.values.specs.BigEndian.{big_endian, bytes_of}
 use Rattle.values.specs.Bytes.{over}
 use Rattle.values.proofs.BigEndian.{four_bytes}
@@ -13,15 +13,6 @@ use Rattle.stores.specs.Laws.{BlockSized}
 use Rattle.entry_layout.specs.Layout.{entry_bytes, entry_in}
 
 -- Reading.
-
-pub no_block : (bs : List ℕ) → get_or bs 4 0 ≡ 0 → entry_in bs ≡ None
-no_block bs e = cond-false _ _ _ (and_left _ _ (lt-leb 1 (get_or bs 4 0) (omega arith)))
-
-pub block_too_long : (bs : List ℕ) → 64 < get_or bs 4 0 → entry_in bs ≡ None
-block_too_long bs h = cond-false _ _ _ (and_right (leb 1 (get_or bs 4 0)) _ (and_left _ _ (lt-leb (get_or bs 4 0) 64 h)))
-
-pub block_cut_short : (bs : List ℕ) → length bs < 5 + get_or bs 4 0 → entry_in bs ≡ None
-block_cut_short bs h = cond-false _ _ _ (and_right (leb 1 (get_or bs 4 0)) _ (and_right (leb (get_or bs 4 0) 64) _ (lt-leb (5 + get_or bs 4 0) (length bs) h)))
 
 pub entry_read : (bs : List ℕ) → 0 < get_or bs 4 0 → get_or bs 4 0 ≤ 64 → 5 + get_or bs 4 0 ≤ length bs
     → entry_in bs ≡ Some (entry (big_endian 4 bs) (take (get_or bs 4 0) (drop 5 bs)))
@@ -34,36 +25,6 @@ four_byte_number (a ∷ []) = omega arith
 four_byte_number (a ∷ b ∷ []) = omega arith
 four_byte_number (a ∷ b ∷ c ∷ []) = omega arith
 four_byte_number (a ∷ b ∷ c ∷ d ∷ bs) = omega arith
-
--- What stands at a place.
-pub no_header_at : (at : ℕ) (bytes : List ℕ) → length bytes < at + 5 → entry_in (drop at bytes) ≡ None
-no_header_at at bytes h = let l = length-drop at bytes in no_block (drop at bytes) (get_or_past (drop at bytes) 4 0 (omega arith))
-
-pub length_byte_at : (at : ℕ) (bytes : List ℕ) → get_or (drop at bytes) 4 0 ≡ get_or bytes (at + 4) 0
-length_byte_at at bytes = get_or-drop at bytes 4 0
-
-pub no_entry_at : (at size : ℕ) (bytes : List ℕ) → size ≡ get_or bytes (at + 4) 0 → at + 5 ≤ length bytes
-    → (size ≡ 0) ⊎ ((64 < size) ⊎ (length bytes - (at + 5) < size)) → entry_in (drop at bytes) ≡ None
-no_entry_at at size bytes e h f =
-    let b = length_byte_at at bytes in
-    let l = length-drop at bytes in
-    elim f [
-      | inl z ↦ no_block (drop at bytes) (omega arith)
-      | inr g ↦ elim g [ inl z ↦ block_too_long (drop at bytes) (omega arith) | inr z ↦ block_cut_short (drop at bytes) (omega arith) ]
-    ]
-
-pub entry_at : (at size number : ℕ) (bytes block : List ℕ) → size ≡ get_or bytes (at + 4) 0 → 0 < size → size ≤ 64 → at + 5 + size ≤ length bytes
-    → number ≡ get_or bytes at 0 * 16777216 + get_or bytes (at + 1) 0 * 65536 + get_or bytes (at + 2) 0 * 256 + get_or bytes (at + 3) 0
-    → block ≡ take size (drop (at + 5) bytes) → Some (entry number block) ≡ entry_in (drop at bytes)
-entry_at at size number bytes block e h i j n b =
-    let s : size ≡ get_or (drop at bytes) 4 0 = e ∙ sym (length_byte_at at bytes) in
-    let l = length-drop at bytes in
-    let zero_th : get_or (drop at bytes) 0 0 ≡ get_or bytes at 0 = get_or-drop at bytes 0 0 ∙ ap (λ (k : ℕ). get_or bytes k 0) (add-zero at) in
-    let m : number ≡ big_endian 4 (drop at bytes) =
-    n ∙ sym (four_byte_number (drop at bytes) ∙ simp (zero_th, get_or-drop at bytes 1 0, get_or-drop at bytes 2 0, get_or-drop at bytes 3 0)) in
-    let c : block ≡ take (get_or (drop at bytes) 4 0) (drop 5 (drop at bytes)) =
-    b ∙ ap (λ (k : ℕ). take k (drop (at + 5) bytes)) s ∙ ap (take (get_or (drop at bytes) 4 0)) (sym (drop-drop 5 at bytes)) in
-    ap₂ (λ (x : ℕ) (y : List ℕ). Some (entry x y)) m c ∙ sym (entry_read (drop at bytes) (omega arith) (omega arith) (omega arith))
 
 -- Writing.
 

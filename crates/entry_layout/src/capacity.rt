@@ -7,8 +7,11 @@ use values::block::MAX_BLOCK_LENGTH;
 /// The most entries that a store has room for.
 pub const MAX_CAPACITY: usize = 4096;
 
-/// The bytes before a block: four for its number, one for its length.
-pub const HEADER_LENGTH: usize = 5;
+/// The bytes of a number.
+pub const NUMBER_LENGTH: usize = 4;
+
+/// The bytes before a block: those of its number, and one for its length.
+pub const HEADER_LENGTH: usize = NUMBER_LENGTH + 1;
 
 /// The most bytes that an entry takes.
 pub const MAX_ENTRY_LENGTH: usize = HEADER_LENGTH + MAX_BLOCK_LENGTH;

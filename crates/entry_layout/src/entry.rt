@@ -7,7 +7,7 @@ ghost use Rattle.stores.specs.Contents.{entry};
 ghost use Rattle.entry_layout.specs.Layout.{block_at, entry_in, with_entry};
 ghost use Rattle.entry_layout.specs.Views.{viewed};
 
-use crate::capacity::HEADER_LENGTH;
+use crate::capacity::{HEADER_LENGTH, NUMBER_LENGTH};
 use values::block::MAX_BLOCK_LENGTH;
 use values::refusal::Refusal;
 
@@ -18,7 +18,24 @@ pub struct EntryRef<'a> {
     pub block: &'a [u8],
 }
 
-impl EntryRef<'_> {
+impl<'a> EntryRef<'a> {
+    /// The entry that bytes begin with, or none where no header with 1 to 64 bytes behind it stands.
+    pub fn read(bytes: &'a [u8]) -> Option<EntryRef<'a>>
+        ensures entry { option_map viewed result ≡ entry_in bytes.now }
+        ensures within { IfSome result (λ e. (5 + length e.block.now ≤ length bytes.now) × (length e.block.now ≤ 64)) }
+    {
+        let (number, rest) = bytes.split_first_chunk::<NUMBER_LENGTH>()?;
+        let (length, behind) = rest.split_first()?;
+        let length = usize::from(*length);
+        if !(1..=MAX_BLOCK_LENGTH).contains(&length) {
+            return None;
+        }
+        Some(EntryRef {
+            number: u32::from_be_bytes(*number),
+            block: behind.get(..length)?,
+        })
+    }
+
     /// How many bytes the entry takes, with its header.
     pub fn size(&self) -> usize
         ensures { result ≡ 5 + length self.now.block.now }
@@ -32,19 +49,7 @@ pub fn entry_at(bytes: &[u8], at: usize) -> Option<EntryRef<'_>>
     ensures entry { option_map viewed result ≡ entry_in (drop at bytes.now) }
     ensures within { IfSome result (λ e. (at + 5 + length e.block.now ≤ length bytes.now) × (length e.block.now ≤ 64)) }
 {
-    if at > bytes.len() || bytes.len() - at < HEADER_LENGTH {
-        return None;
-    }
-    let length = bytes[at + 4] as usize;
-    let start = at + HEADER_LENGTH;
-    if length == 0 || length > MAX_BLOCK_LENGTH || length > bytes.len() - start {
-        return None;
-    }
-    let number = u32::from_be_bytes([bytes[at], bytes[at + 1], bytes[at + 2], bytes[at + 3]]);
-    Some(EntryRef {
-        number,
-        block: &bytes[start..start + length],
-    })
+    EntryRef::read(bytes.get(at..)?)
 }
 
 /// Writes an entry from a place on. Where it does not fit, nothing is written.
@@ -56,8 +61,8 @@ pub fn write_entry(bytes: &mut [u8], at: usize, number: u32, block: &[u8])
         return;
     }
     let start = at + HEADER_LENGTH;
-    bytes[at..at + 4].copy_from_slice(&number.to_be_bytes());
-    bytes[at + 4] = length as u8;
+    bytes[at..at + NUMBER_LENGTH].copy_from_slice(&number.to_be_bytes());
+    bytes[at + NUMBER_LENGTH] = length as u8;
     let behind = &mut bytes[start..start + length];
     behind.copy_from_slice(block);
 }
@@ -70,13 +75,10 @@ pub fn read_entry(bytes: &[u8], at: Option<usize>, buffer: &mut [u8]) -> Result<
     if buffer.len() < MAX_BLOCK_LENGTH {
         return Err(Refusal::BufferTooShort);
     }
-    let Some(at) = at else {
-        return Err(Refusal::NoSuchEntry);
-    };
-    let Some(entry) = entry_at(bytes, at) else {
-        return Err(Refusal::NoSuchEntry);
-    };
+    let entry = at
+        .and_then(|at| entry_at(bytes, at))
+        .ok_or(Refusal::NoSuchEntry)?;
     let length = entry.block.len();
-    buffer[0..length].copy_from_slice(entry.block);
+    buffer[..length].copy_from_slice(entry.block);
     Ok(length)
 }

@@ -6,6 +6,7 @@ ghost use Rattle.entry_layout.specs.Layout.{zeroed};
 pub fn fill_zero(bytes: &mut [u8], from: usize, to: usize)
     ensures { bytes.new ≡ zeroed from to bytes.old }
 {
+    // Not by `get_mut`: its contract leaves open what the bytes are where it answers `None`.
     if from > to || to > bytes.len() {
         return;
     }
