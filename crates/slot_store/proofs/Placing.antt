@@ -2,7 +2,7 @@
 use Rattle.std.proofs.Common.{◌≡◌, ℕ, zero, suc, ◌<◌, ◌≤◌, true, false, cond, ltb, ◌≢◌, List, [], ◌∷◌, ◌++◌, length, get_or, set, replicate, Some, None, Option, sym, refl, ap, ◌∙◌, subst, inl, inr, arith}
 use Rattle.std.specs.List.{AllByRecursion}
 use Rattle.std.proofs.lemmas.Bool.{both_ways, cases_Bool, cond-true, cond-false, ltb-true, ltb-false, lt-ltb, le-ltb, eqb-true, eq-eqb, ne_eqb}
-use Rattle.values.proofs.Cases.{none_is_not_some, same_some}
+use Rattle.std.proofs.lemmas.Option.{none-some, same_Some}
 use Rattle.stores.specs.Contents.{Entry, entry, without, block_of}
 use Rattle.stores.specs.Laws.{Rising}
 use Rattle.stores.proofs.Entries.{Lacks, lacks_if_above, rising_all_above, rising_lower}
@@ -134,8 +134,8 @@ all_in_slots P (Some e ∷ slots) h = let p = all_before_placing P e (ranked slo
 pub ranked_at : (slots : List (Option Entry)) (s : ℕ) (e : Entry) → s < length slots → get_or slots s None ≡ Some e → Lacks e.number (ranked (set slots s None))
     → ranked slots ≡ placed e (ranked (set slots s None))
 ranked_at [] s e h g l = absurd (omega arith)
-ranked_at (None ∷ slots) zero e h g l = absurd (none_is_not_some g)
-ranked_at (Some y ∷ slots) zero e h g l = ap (λ (z : Entry). placed z (ranked slots)) (same_some g)
+ranked_at (None ∷ slots) zero e h g l = absurd (none-some _ g)
+ranked_at (Some y ∷ slots) zero e h g l = ap (λ (z : Entry). placed z (ranked slots)) (same_Some _ _ g)
 ranked_at (None ∷ slots) (suc s) e h g l = ranked_at slots s e (omega arith) g l
 ranked_at (Some y ∷ slots) (suc s) e h g l =
     let p = all_before_placing (λ x. x.number ≢ e.number) y (ranked (set slots s None)) l in
@@ -145,9 +145,9 @@ ranked_at (Some y ∷ slots) (suc s) e h g l =
 pub others_lack : (low last : ℕ) (slots : List (Option Entry)) (s : ℕ) (e : Entry) → s < length slots → get_or slots s None ≡ Some e → Rising low last (ranked slots)
     → Lacks e.number (ranked (set slots s None))
 others_lack low last [] s e h g r = absurd (omega arith)
-others_lack low last (None ∷ slots) zero e h g r = absurd (none_is_not_some g)
+others_lack low last (None ∷ slots) zero e h g r = absurd (none-some _ g)
 others_lack low last (Some y ∷ slots) zero e h g r =
-    subst (λ (z : Entry). Lacks z.number (ranked slots)) (same_some g) (rising_before_placing low last y (ranked slots) r).1
+    subst (λ (z : Entry). Lacks z.number (ranked slots)) (same_Some _ _ g) (rising_before_placing low last y (ranked slots) r).1
 others_lack low last (None ∷ slots) (suc s) e h g r = others_lack low last slots s e (omega arith) g r
 others_lack low last (Some y ∷ slots) (suc s) e h g r =
     let p = rising_before_placing low last y (ranked slots) r in

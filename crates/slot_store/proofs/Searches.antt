@@ -13,7 +13,7 @@ use Rattle.std.specs.List.{AllByRecursion, find, range_with_len}
 use Rattle.std.proofs.ByRecursion.{All-append, All-get_or}
 use Rattle.std.proofs.lemmas.List.{get_or-drop, get_or-take, get_or_append_left, get_or-append_right, length-drop, length-take, take-append-drop}
 use Rattle.std.proofs.lemmas.Bool.{cases_Bool, cases_lt}
-use Rattle.values.proofs.Cases.{none_is_not_some, same_some}
+use Rattle.std.proofs.lemmas.Option.{none-some, same_Some}
 use Rattle.slot_store.specs.Search.{first_place, going_round, Finds, MetBefore, NearestIsFound, holds}
 use Rattle.stores.specs.Contents.{Entry}
 
@@ -74,17 +74,17 @@ pub none_passes : {X : Type 0} (test : X → Bool) (at : ℕ) (xs : List X) → 
 none_passes test at [] e = tt
 none_passes test at (x ∷ xs) e =
     elim (cases_Bool (test x)) [
-      | inl t ↦ absurd (none_is_not_some (sym (rw t at e)))
+      | inl t ↦ absurd (none-some _ (sym (rw t at e)))
       | inr t ↦ (t, none_passes test (suc at) xs (rw t at e))
     ]
 
 pub one_passes : {X : Type 0} (test : X → Bool) (at : ℕ) (xs : List X) (place : ℕ) (d : X) → first_place test at xs ≡ Some place
     → (at ≤ place) × (place < at + length xs) × (test (get_or xs (place - at) d) ≡ true)
-one_passes test at [] place d e = absurd (none_is_not_some e)
+one_passes test at [] place d e = absurd (none-some _ e)
 one_passes test at (x ∷ xs) place d e =
     elim (cases_Bool (test x)) [
       | inl t ↦
-          let p : at ≡ place = same_some (rw t at e) in
+          let p : at ≡ place = same_Some _ _ (rw t at e) in
           let z : place - at ≡ 0 = omega arith in
           (omega arith, omega arith, rw z t)
       | inr t ↦
@@ -104,7 +104,7 @@ round_none test start xs e =
         let g : first_place test 0 (take start xs) ≡ None = rw f at e in
         subst (AllByRecursion (λ x. test x ≡ false)) (take-append-drop start xs)
         (All-append (λ x. test x ≡ false) (take start xs) (drop start xs) (none_passes test 0 (take start xs) g) (none_passes test start (drop start xs) f))
-    split (Some p) f = absurd (none_is_not_some (sym (rw f at e)))
+    split (Some p) f = absurd (none-some _ (sym (rw f at e)))
 
 pub round_some : {X : Type 0} (test : X → Bool) (start : ℕ) (xs : List X) (place : ℕ) (d : X) → going_round test start xs ≡ Some place
     → (place < length xs) × (test (get_or xs place d) ≡ true)
@@ -120,7 +120,7 @@ round_some {X = X} test start xs place d e =
         let g : get_or (take start xs) (place - 0) d ≡ get_or xs place d = ap (λ (i : ℕ). get_or (take start xs) i d) z ∙ get_or-take start xs place d (omega arith) in
         (omega arith, ap test (sym g) ∙ p.2)
     split (Some q) f =
-        let s : q ≡ place = same_some (rw f at e) in
+        let s : q ≡ place = same_Some _ _ (rw f at e) in
         let p = one_passes test start (drop start xs) q d f in
         let a = p.0 in
         let b = p.1 in
@@ -141,10 +141,10 @@ free_slot (Some x) e = let z : ◌≡◌ {A = ℕ} 0 1 = cc in absurd (omega ari
 -- What is passed over does not pass.
 pub passed_by : {X : Type 0} (test : X → Bool) (at : ℕ) (xs : List X) (place : ℕ) (d : X) → first_place test at xs ≡ Some place
     → (k : ℕ) → at + k < place → test (get_or xs k d) ≡ false
-passed_by test at [] place d e k h = absurd (none_is_not_some e)
+passed_by test at [] place d e k h = absurd (none-some _ e)
 passed_by test at (x ∷ xs) place d e k h =
     elim (cases_Bool (test x)) [
-      | inl t ↦ let p : at ≡ place = same_some (rw t at e) in absurd (omega arith)
+      | inl t ↦ let p : at ≡ place = same_Some _ _ (rw t at e) in absurd (omega arith)
       | inr t ↦ first_or_later k h t (passed_by test (suc at) xs place d (rw t at e))
     ]
   where
@@ -178,7 +178,7 @@ nearest_is_found test start slots = found (going_round test start slots) refl
     met : (q place : ℕ) (o : Option ℕ) → first_place test start (drop start slots) ≡ o → going_round test start slots ≡ Some q → place < length slots → MetBefore start q place
         → test (get_or slots place None) ≡ false
     met q place (Some p) f e h m =
-        let s : p ≡ q = same_some (rw f at e) in
+        let s : p ≡ q = same_Some _ _ (rw f at e) in
         let a = (one_passes test start (drop start slots) p None f).0 in
         elim m [ inl n ↦ above place p f n.0 (omega (arith, n.1)) | inr n ↦ absurd (omega (arith, n.0)) ]
     met q place None f e h m =

@@ -7,8 +7,7 @@ use Rattle.values.specs.Answers.{unless_refused}
 use Rattle.values.specs.Blocks.{max_block_length}
 use Rattle.values.specs.Refusals.{number_of}
 use Rattle.values.specs.declared.refusal.Refusal.{Refusal}
-use Rattle.values.proofs.Answers.{accepted, also_accepted, also_refused}
-use Rattle.values.proofs.Cases.{accepted_is_not_refused}
+use Rattle.values.proofs.Answers.{accepted_is_not_refused, accepted, also_accepted, also_refused}
 use Rattle.stores.specs.Calls.{Appends, append_tests, admission, appending, dropping}
 use Rattle.stores.specs.Contents.{Entry, entry, Contents, emptied, appended, dropped, block_of, without}
 use Rattle.stores.specs.Laws.{BlockSized, Lawful, OthersStay, EntriesAreKept}

@@ -3,6 +3,9 @@ use Rattle.std.proofs.Common.{◌≡◌, ℕ, Bool, true, false, not, List, [], 
 use Rattle.std.proofs.lemmas.Bool.{cases_Bool}
 use Rattle.values.specs.Answers.{unless_refused}
 
+pub accepted_is_not_refused : {A B : Type 0} {x : A} {y : B} → ◌≡◌ {A = Result A B} (Ok x) (Err y) → ⊥
+accepted_is_not_refused e = let z : ◌≡◌ {A = ℕ} 0 1 = cc in omega arith
+
 pub accepted : {B : Type 0} (passes : Bool) (n : ℕ) (x y : B) → passes ≡ true → x ≡ y → Ok x ≡ unless_refused ((not passes, n) ∷ []) y
 accepted passes n x y e f = ap₂ (λ b z. unless_refused ((not b, n) ∷ []) z) (sym e) f
 
@@ -14,16 +17,12 @@ pub also_accepted : {A B : Type 0} (tests : List (Bool × ℕ)) (x z : A) (y : B
 also_accepted [] x z y h = refl
 also_accepted {A = A} {B = B} (t ∷ tests) x z y h =
     elim (cases_Bool t.0) [
-      | inl p ↦
-          let e : ◌≡◌ {A = Result A ℕ} (Ok z) (Err t.1) = rw p at h in
-          let o : ◌≡◌ {A = ℕ} 0 1 = cc in absurd (omega arith)
+      | inl p ↦ absurd (accepted_is_not_refused {A = A} {B = ℕ} (rw p at h))
       | inr p ↦ rw p (also_accepted tests x z y (rw p at h))
     ]
 
 pub also_refused : {A B : Type 0} (tests : List (Bool × ℕ)) (n : ℕ) (x : A) (y : B) → Err n ≡ unless_refused tests x → Err n ≡ unless_refused tests y
-also_refused {A = A} [] n x y h =
-    let e : ◌≡◌ {A = Result A ℕ} (Err n) (Ok x) = h in
-    let o : ◌≡◌ {A = ℕ} 0 1 = cc in absurd (omega arith)
+also_refused [] n x y h = absurd (accepted_is_not_refused (sym h))
 also_refused {A = A} {B = B} (t ∷ tests) n x y h =
     elim (cases_Bool t.0) [
       | inl p ↦

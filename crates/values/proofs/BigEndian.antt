@@ -1,6 +1,6 @@
 -- Bytes as one number, the first most significant, and back.
-use Rattle.std.proofs.Common.{◌≡◌, ℕ, zero, suc, ◌+◌, ◌*◌, ◌/◌, ◌%◌, ◌^◌, ◌<◌, ◌≤◌, List, [], ◌∷◌, ◌++◌, get_or, drop, sym, refl, ap, ◌∙◌, ap₂, mul-le-mul_right, mul_assoc, mul_comm, add-mul, suc-add, pow-suc, zero-add, div-one, add-one, arith, lit<, pow-add}
-use native.Mathlib.Nat.{pow-le-pow_right, one-le-pow, mul-add-div_right, mul-add-mod_self_right, zero-div, div-eq_of_lt}
+use Rattle.std.proofs.Common.{◌≡◌, ℕ, zero, suc, ◌+◌, ◌*◌, ◌/◌, ◌%◌, ◌^◌, ◌<◌, ◌≤◌, List, [], ◌∷◌, ◌++◌, drop, sym, refl, ap, ◌∙◌, ap₂, mul-le-mul_right, mul_assoc, mul_comm, add-mul, suc-add, pow-suc, zero-add, div-one, arith, lit<, pow-add}
+use native.Mathlib.Nat.{one-le-pow, mul-add-div_right, mul-add-mod_self_right, zero-div, div-eq_of_lt}
 use Rattle.values.specs.BigEndian.{big_endian, bytes_of}
 
 -- Every element is a byte.
@@ -15,27 +15,6 @@ Bytes-drop (suc k) (b ∷ bs) h = Bytes-drop k bs h.1
 
 pub power_is_positive : (k : ℕ) → 1 ≤ 256 ^ k
 power_is_positive k = one-le-pow k 256 (lit< tt)
-
-one_byte_more : (k : ℕ) (bs : List ℕ) → big_endian (suc k) bs ≡ big_endian k bs * 256 + get_or bs k 0
-one_byte_more zero [] = refl
-one_byte_more zero (b ∷ bs) = omega arith
-one_byte_more (suc k) [] = refl
-one_byte_more (suc k) (b ∷ bs) =
-    let e : b * 256 ^ suc k ≡ b * 256 ^ k * 256 = ap (λ (x : ℕ). b * x) (pow-suc 256 k) ∙ sym (mul_assoc b (256 ^ k) 256) in
-    omega (arith, e, one_byte_more k bs)
-
--- A turn of the loop that packs: one byte more, below the next power of 256.
-pub pack_next_byte : (i n b : ℕ) (bs : List ℕ) → n ≡ big_endian i bs → n < 256 ^ i → b ≡ get_or bs i 0 → b < 256
-    → (n * 256 + b ≡ big_endian (i + 1) bs) × (n * 256 + b < 256 ^ (i + 1))
-pack_next_byte i n b bs e h r l =
-    let p : 256 ^ (i + 1) ≡ 256 ^ i * 256 = ap (λ (x : ℕ). 256 ^ x) (add-one i) ∙ pow-suc 256 i in
-    let m : big_endian (i + 1) bs ≡ big_endian i bs * 256 + get_or bs i 0 = rw add-one (one_byte_more i bs) in
-    (omega arith, omega arith)
-
--- Fewer than eight bytes leave room for one more in 64 bits.
-pub room_for_a_byte : (i n : ℕ) → n < 256 ^ i → i < 8 → n < 256 ^ 7
-room_for_a_byte i n h l =
-    let p : 256 ^ i ≤ 256 ^ 7 = pow-le-pow_right (lit< tt) {i = i} {j = 7} (omega arith) in omega arith
 
 pub big_endian_bound : (k : ℕ) (bs : List ℕ) → Bytes bs → big_endian k bs < 256 ^ k
 big_endian_bound zero bs h = lit< tt

@@ -1,5 +1,4 @@
 pub mod Answers
 pub mod BigEndian
-pub mod Cases
 pub mod Over
 pub mod Places
