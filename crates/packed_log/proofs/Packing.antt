@@ -1,9 +1,10 @@
 -- Entries packed into bytes: what is read back, and what an entry more or less makes of the bytes.
-use Rattle.std.proofs.Common.{◌≡◌, ℕ, suc, ◌+◌, ◌-◌, ◌*◌, ◌^◌, ◌<◌, ◌≤◌, cond, eqb, ◌≢◌, List, [], ◌∷◌, ◌++◌, length, take, drop, replicate, Some, None, Option, sym, refl, ap, ◌∙◌, subst, inl, inr, append_assoc, add-zero, zero-add, arith, length-append}
+use Rattle.std.proofs.Common.{◌≡◌, ℕ, suc, ◌+◌, ◌-◌, ◌*◌, ◌^◌, ◌<◌, ◌≤◌, eqb, List, [], ◌∷◌, ◌++◌, length, take, drop, replicate, Some, None, Option, sym, refl, ap, ◌∙◌, subst, inl, inr, append_assoc, add-zero, zero-add, arith, length-append}
 use Rattle.std.specs.Option.{option_map}
 use Rattle.std.specs.List.{flat_map, AllByRecursion}
-use Rattle.std.proofs.lemmas.List.{take_at, drop_at, drop-drop, drop-append-le, drop-replicate, length-replicate, replicate-append-replicate, flat_map_more}
-use Rattle.std.proofs.lemmas.Bool.{cases_Bool, cond-true, cond-false, and_from, le-leb, eq-eqb, ne_eqb}
+use Rattle.std.proofs.lemmas.List.{take_at, drop_at, drop-append-le, drop-replicate, length-replicate, replicate-append-replicate, flat_map_more}
+use Rattle.std.proofs.lemmas.Grind.{flat_map-append}
+use Rattle.std.proofs.lemmas.Bool.{cases_Bool, cond-true, cond-false, and_from, le-leb}
 use Rattle.values.specs.Bytes.{over}
 use Rattle.values.proofs.Over.{over_behind}
 use Rattle.stores.specs.Contents.{Entry, Contents, block_of, without}
@@ -11,7 +12,7 @@ use Rattle.stores.specs.Laws.{BlockSized, Lawful, Rising}
 use Rattle.stores.proofs.Entries.{rising_bound}
 use Rattle.entry_layout.specs.Layout.{block_at, entry_bytes, entry_in}
 use Rattle.entry_layout.proofs.EntryBytes.{length-entry, entry_read_back}
-use Rattle.packed_log.specs.Log.{packed_length, packed, followed, entries_in, place_from, taken_out}
+use Rattle.packed_log.specs.Log.{packed_length, packed, followed, entries_in, found_from, taken_out}
 
 -- An entry that is read back as it was written.
 abbrev pub Readable : Entry → Type 0
@@ -27,10 +28,6 @@ pub lawful_readable : (c : Contents) → Lawful c → AllByRecursion Readable c.
 lawful_readable c l = rising_readable 0 c.last c.held l.narrow l.rising l.sized
 
 -- How long packed entries are.
-
-joined_both : (es fs : List Entry) → flat_map entry_bytes (es ++ fs) ≡ flat_map entry_bytes es ++ flat_map entry_bytes fs
-joined_both [] fs = refl
-joined_both (e ∷ es) fs = ap (λ (w : List ℕ). entry_bytes e ++ w) (joined_both es fs) ∙ sym (append_assoc (entry_bytes e) (flat_map entry_bytes es) (flat_map entry_bytes fs))
 
 pub packed_length_bound : (es : List Entry) → AllByRecursion Readable es → packed_length es ≤ length es * 69
 packed_length_bound [] f = omega arith
@@ -102,57 +99,56 @@ packed_one_more room es e tail h =
 
 -- Where an entry stands.
 
-pub record Found (number from place : ℕ) (es : List Entry) : Type 0 where
+pub record Found (number from place : ℕ) (e : Entry) (es : List Entry) : Type 0 where
   pub before : List Entry
-  pub found : Entry
   pub behind : List Entry
-  pub whole : es ≡ before ++ found ∷ behind
+  pub whole : es ≡ before ++ e ∷ behind
   pub left : without number es ≡ before ++ behind
-  pub block : block_of number es ≡ Some found.block
+  pub block : block_of number es ≡ Some e.block
   pub placed : from + packed_length before ≡ place
 
-pub found_at_place : (number from place : ℕ) (es : List Entry) → place_from number from es ≡ Some place → Found number from place es
-found_at_place number from place [] h = let z : ◌≡◌ {A = ℕ} 0 1 = cc in absurd (omega arith)
-found_at_place number from place (e ∷ es) h =
-    elim (cases_Bool (eqb e.number number)) [
+pub found_at_place : (number from place : ℕ) (e : Entry) (es : List Entry) → found_from number from es ≡ Some (place, e) → Found number from place e es
+found_at_place number from place e [] h = let z : ◌≡◌ {A = ℕ} 0 1 = cc in absurd (omega arith)
+found_at_place number from place e (x ∷ es) h =
+    elim (cases_Bool (eqb x.number number)) [
       | inl q ↦
-          let s : ◌≡◌ {A = Option ℕ} (Some from) (Some place) = rw q at h in
+          let s : ◌≡◌ {A = Option (ℕ × Entry)} (Some (from, x)) (Some (place, e)) = rw q at h in
+          let same : ◌≡◌ {A = ℕ × Entry} (from, x) (place, e) = cc in
+          let is : x ≡ e = ap (λ p. p.1) same in
           record {
             before = [];
-            found = e;
             behind = es;
-            whole = refl;
-            left = cond-true _ es (e ∷ without number es) q;
-            block = cond-true _ (Some e.block) (block_of number es) q;
-            placed = add-zero from ∙ cc;
+            whole = ap (λ (y : Entry). y ∷ es) is;
+            left = cond-true _ es (x ∷ without number es) q;
+            block = cond-true _ (Some x.block) (block_of number es) q ∙ ap (λ (y : Entry). Some y.block) is;
+            placed = add-zero from ∙ ap (λ p. p.0) same;
           }
       | inr q ↦
-          let next : ℕ = from + (5 + length e.block) in
-          let s : place_from number next es ≡ Some place = rw q at h in
-          let p = found_at_place number next place es s in
-          let l = length-entry e in
-          let m = length-append (entry_bytes e) (flat_map entry_bytes p.before) in
+          let next : ℕ = from + (5 + length x.block) in
+          let s : found_from number next es ≡ Some (place, e) = rw q at h in
+          let p = found_at_place number next place e es s in
+          let l = length-entry x in
+          let m = length-append (entry_bytes x) (flat_map entry_bytes p.before) in
           let n = p.placed in
           record {
-            before = e ∷ p.before;
-            found = p.found;
+            before = x ∷ p.before;
             behind = p.behind;
-            whole = ap (λ (fs : List Entry). e ∷ fs) p.whole;
-            left = cond-false _ es (e ∷ without number es) q ∙ ap (λ (fs : List Entry). e ∷ fs) p.left;
-            block = cond-false _ (Some e.block) (block_of number es) q ∙ p.block;
+            whole = ap (λ (fs : List Entry). x ∷ fs) p.whole;
+            left = cond-false _ es (x ∷ without number es) q ∙ ap (λ (fs : List Entry). x ∷ fs) p.left;
+            block = cond-false _ (Some x.block) (block_of number es) q ∙ p.block;
             placed = omega arith;
           }
     ]
 
-pub nothing_at_no_place : (number from : ℕ) (es : List Entry) → place_from number from es ≡ None → block_of number es ≡ None
+pub nothing_at_no_place : (number from : ℕ) (es : List Entry) → found_from number from es ≡ None → block_of number es ≡ None
 nothing_at_no_place number from [] h = refl
 nothing_at_no_place number from (e ∷ es) h =
     elim (cases_Bool (eqb e.number number)) [
       | inl q ↦
-          let s : ◌≡◌ {A = Option ℕ} (Some from) None = rw q at h in
+          let s : ◌≡◌ {A = Option (ℕ × Entry)} (Some (from, e)) None = rw q at h in
           let z : ◌≡◌ {A = ℕ} 0 1 = cc in absurd (omega arith)
       | inr q ↦
-          let s : place_from number (from + (5 + length e.block)) es ≡ None = rw q at h in
+          let s : found_from number (from + (5 + length e.block)) es ≡ None = rw q at h in
           cond-false _ (Some e.block) (block_of number es) q ∙ nothing_at_no_place number (from + (5 + length e.block)) es s
     ]
 
@@ -160,7 +156,7 @@ nothing_at_no_place number from (e ∷ es) h =
 bytes_around : (before behind : List Entry) (e : Entry) (rest : List ℕ)
     → flat_map entry_bytes (before ++ e ∷ behind) ++ rest ≡ flat_map entry_bytes before ++ (entry_bytes e ++ (flat_map entry_bytes behind ++ rest))
 bytes_around before behind e rest =
-    ap (λ (w : List ℕ). w ++ rest) (joined_both before (e ∷ behind))
+    ap (λ (w : List ℕ). w ++ rest) (flat_map-append entry_bytes before (e ∷ behind))
     ∙ append_assoc (flat_map entry_bytes before) (entry_bytes e ++ flat_map entry_bytes behind) rest
     ∙ ap (λ (w : List ℕ). flat_map entry_bytes before ++ w) (append_assoc (entry_bytes e) (flat_map entry_bytes behind) rest)
 
@@ -168,10 +164,9 @@ all_in_the_middle : (P : Entry → Type 0) (before behind : List Entry) (e : Ent
 all_in_the_middle P [] behind e h = h.0
 all_in_the_middle P (x ∷ before) behind e h = all_in_the_middle P before behind e h.1
 
-pub entry_read_at_place : (number place : ℕ) (es : List Entry) (rest : List ℕ) (f : Found number 0 place es) → AllByRecursion Readable es
-    → entry_in (drop place (flat_map entry_bytes es ++ rest)) ≡ Some f.found
-entry_read_at_place number place es rest f h =
-    let e = f.found in
+entry_read_at_place : (number place : ℕ) (e : Entry) (es : List Entry) (rest : List ℕ) → Found number 0 place e es → AllByRecursion Readable es
+    → entry_in (drop place (flat_map entry_bytes es ++ rest)) ≡ Some e
+entry_read_at_place number place e es rest f h =
     let behind : List ℕ = flat_map entry_bytes f.behind ++ rest in
     let r : Readable e = all_in_the_middle Readable f.before f.behind e (subst (AllByRecursion Readable) f.whole h) in
     let p : packed_length f.before ≡ place = let q = f.placed in omega arith in
@@ -180,14 +175,12 @@ entry_read_at_place number place es rest f h =
     ∙ ap entry_in (drop_at (flat_map entry_bytes f.before) (entry_bytes e ++ behind) place p)
     ∙ entry_read_back e behind r.0 r.1
 
-pub block_read_at_place : (number : ℕ) (es : List Entry) (rest : List ℕ) → AllByRecursion Readable es → block_at (place_from number 0 es) (flat_map entry_bytes es ++ rest) ≡ block_of number es
-block_read_at_place number es rest h = at_any (place_from number 0 es) refl
-  where
-    at_any : (place : Option ℕ) → place_from number 0 es ≡ place → block_at place (flat_map entry_bytes es ++ rest) ≡ block_of number es
-    at_any None e = sym (nothing_at_no_place number 0 es e)
-    at_any (Some place) e =
-        let f = found_at_place number 0 place es e in
-        ap (option_map (λ e. e.block)) (entry_read_at_place number place es rest f h) ∙ sym f.block
+pub block_read_at_place : (number : ℕ) (es : List Entry) (rest : List ℕ) (found : Option (ℕ × Entry)) → AllByRecursion Readable es → found ≡ found_from number 0 es
+    → block_at (option_map (λ p. p.0) found) (flat_map entry_bytes es ++ rest) ≡ block_of number es
+block_read_at_place number es rest None h p = sym (nothing_at_no_place number 0 es (sym p))
+block_read_at_place number es rest (Some (place, e)) h p =
+    let f = found_at_place number 0 place e es (sym p) in
+    ap (option_map (λ e. e.block)) (entry_read_at_place number place e es rest f h) ∙ sym f.block
 
 -- An entry less.
 
@@ -210,28 +203,26 @@ middle_taken_out at size end front middle back rest a s e =
     ∙ ap (λ (w : List ℕ). front ++ (back ++ (replicate size 0 ++ w))) last
 
 -- How long entries are with and without a found one.
-pub length_around : (number from place : ℕ) (es : List Entry) (f : Found number from place es)
-    → (packed_length es ≡ packed_length f.before + (5 + length f.found.block) + packed_length f.behind) × (packed_length (without number es) ≡ packed_length f.before + packed_length f.behind)
-length_around number from place es f =
-    let e = f.found in
+pub length_around : (number from place : ℕ) (e : Entry) (es : List Entry) (f : Found number from place e es)
+    → (packed_length es ≡ packed_length f.before + (5 + length e.block) + packed_length f.behind) × (packed_length (without number es) ≡ packed_length f.before + packed_length f.behind)
+length_around number from place e es f =
     let a = ap packed_length f.whole in
-    let b = ap length (joined_both f.before (e ∷ f.behind)) in
+    let b = ap length (flat_map-append entry_bytes f.before (e ∷ f.behind)) in
     let c = length-append (flat_map entry_bytes f.before) (entry_bytes e ++ flat_map entry_bytes f.behind) in
     let d = length-append (entry_bytes e) (flat_map entry_bytes f.behind) in
     let l = length-entry e in (
       omega arith,
-      ap packed_length f.left ∙ ap length (joined_both f.before f.behind) ∙ length-append (flat_map entry_bytes f.before) (flat_map entry_bytes f.behind),
+      ap packed_length f.left ∙ ap length (flat_map-append entry_bytes f.before f.behind) ∙ length-append (flat_map entry_bytes f.before) (flat_map entry_bytes f.behind),
     )
 
-pub packed_one_less : (room number place size : ℕ) (es : List Entry) (tail : List ℕ) (f : Found number 0 place es) → size ≡ 5 + length f.found.block → packed_length es ≤ room
+pub packed_one_less : (room number place size : ℕ) (e : Entry) (es : List Entry) (tail : List ℕ) → Found number 0 place e es → size ≡ 5 + length e.block → packed_length es ≤ room
     → taken_out place size (packed_length es) (packed room es tail) ≡ packed room (without number es) tail
-packed_one_less room number place size es tail f s h =
-    let e = f.found in
+packed_one_less room number place size e es tail f s h =
     let front : List ℕ = flat_map entry_bytes f.before in
     let back : List ℕ = flat_map entry_bytes f.behind in
     let free : ℕ = room - packed_length es in
     let rest : List ℕ = replicate free 0 ++ tail in
-    let l = length_around number 0 place es f in
+    let l = length_around number 0 place e es f in
     let la = l.0 in
     let lb = l.1 in
     let p = f.placed in
@@ -241,33 +232,9 @@ packed_one_less room number place size es tail f s h =
     sym (append_assoc (replicate size 0) (replicate free 0) tail)
     ∙ ap (λ (w : List ℕ). w ++ tail) (replicate-append-replicate {A = ℕ} size free 0)
     ∙ ap (λ (k : ℕ). replicate k 0 ++ tail) more in
-    let fewer : front ++ back ≡ flat_map entry_bytes (without number es) = sym (ap (flat_map entry_bytes) f.left ∙ joined_both f.before f.behind) in
+    let fewer : front ++ back ≡ flat_map entry_bytes (without number es) = sym (ap (flat_map entry_bytes) f.left ∙ flat_map-append entry_bytes f.before f.behind) in
     ap (taken_out place size (packed_length es)) (ap (λ (fs : List Entry). flat_map entry_bytes fs ++ rest) f.whole ∙ bytes_around f.before f.behind e rest)
     ∙ middle_taken_out place size (packed_length es) front (entry_bytes e) back rest (omega arith) (omega arith) (omega arith)
     ∙ sym (append_assoc front back (replicate size 0 ++ rest))
     ∙ ap (λ (w : List ℕ). front ++ back ++ w) zeros
     ∙ ap (λ (w : List ℕ). w ++ (replicate (room - packed_length (without number es)) 0 ++ tail)) fewer
-
--- A walk over entries that has come to a place, with so many entries left.
-
-pub walk_ends : (number at left fewer : ℕ) (bytes : List ℕ) → left ≡ suc fewer → None ≡ entry_in (drop at bytes) → None ≡ place_from number at (entries_in left (drop at bytes))
-walk_ends number at left fewer bytes l h =
-    ap (λ (o : Option Entry). place_from number at (followed o (λ e. entries_in fewer (drop (5 + length e.block) (drop at bytes))))) h
-    ∙ ap (λ (k : ℕ). place_from number at (entries_in k (drop at bytes))) (sym l)
-
-walk_is_at : (number at left fewer : ℕ) (bytes : List ℕ) (e : Entry) → left ≡ suc fewer → Some e ≡ entry_in (drop at bytes)
-    → cond (eqb e.number number) (Some at) (place_from number (at + (5 + length e.block)) (entries_in fewer (drop (at + (5 + length e.block)) bytes)))
-    ≡ place_from number at (entries_in left (drop at bytes))
-walk_is_at number at left fewer bytes e l h =
-    let next : ℕ = at + (5 + length e.block) in
-    ap (λ (w : List ℕ). cond (eqb e.number number) (Some at) (place_from number next (entries_in fewer w))) (sym (drop-drop (5 + length e.block) at bytes))
-    ∙ ap (place_from number at) (sym (entries_begin fewer (drop at bytes) e (sym h)))
-    ∙ ap (λ (k : ℕ). place_from number at (entries_in k (drop at bytes))) (sym l)
-
-pub walk_finds : (number at left fewer : ℕ) (bytes : List ℕ) (e : Entry) → left ≡ suc fewer → Some e ≡ entry_in (drop at bytes)
-    → e.number ≡ number → Some at ≡ place_from number at (entries_in left (drop at bytes))
-walk_finds number at left fewer bytes e l h n = sym (cond-true _ _ _ (eq-eqb e.number number n)) ∙ walk_is_at number at left fewer bytes e l h
-
-pub walk_goes_on : (number at left fewer : ℕ) (bytes : List ℕ) (e : Entry) → left ≡ suc fewer → Some e ≡ entry_in (drop at bytes)
-    → e.number ≢ number → place_from number (at + (5 + length e.block)) (entries_in fewer (drop (at + (5 + length e.block)) bytes)) ≡ place_from number at (entries_in left (drop at bytes))
-walk_goes_on number at left fewer bytes e l h n = sym (cond-false _ _ _ (ne_eqb e.number number n)) ∙ walk_is_at number at left fewer bytes e l h

@@ -1,6 +1,6 @@
 -- Entries that stand end to end in bytes.
 use Rattle.std.specs.Prelude.{ℕ, zero, suc, ◌+◌, ◌-◌, ◌*◌, cond, ◌&&◌, List, [], ◌∷◌, ◌++◌, length, take, drop, replicate, Some, None, Option, ◌==◌, nat_le}
-use Rattle.std.specs.List.{flat_map}
+use Rattle.std.specs.List.{find, flat_map}
 use Rattle.stores.specs.Contents.{Entry}
 use Rattle.entry_layout.specs.Layout.{capacity_of, entry_bytes, entry_in}
 
@@ -26,10 +26,14 @@ abbrev pub entries_in : (count : ℕ) (bytes : List ℕ) → List Entry
 entries_in zero bytes = []
 entries_in (suc count) bytes = followed (entry_in bytes) (λ e. entries_in count (drop (5 + length e.block) bytes))
 
--- The first byte of the entry with this number, where entries stand end to end from the place `at` on.
-abbrev pub place_from : (number at : ℕ) → List Entry → Option ℕ
-place_from number at [] = None
-place_from number at (e ∷ es) = cond (e.number == number) (Some at) (place_from number (at + (5 + length e.block)) es)
+-- Entries that stand end to end from the place `at` on, each with the place where it begins.
+abbrev pub placed_from : (at : ℕ) → List Entry → List (ℕ × Entry)
+placed_from at [] = []
+placed_from at (e ∷ es) = (at, e) ∷ placed_from (at + (5 + length e.block)) es
+
+-- The entry with this number, with the place where it begins.
+abbrev pub found_from : (number at : ℕ) → List Entry → Option (ℕ × Entry)
+found_from number at es = find (λ p. p.1.number == number) (placed_from at es)
 
 -- Bytes with `size` of them taken out at a place: those behind, up to `end`, move down, and zeros follow.
 abbrev pub taken_out : (at size end : ℕ) → List ℕ → List ℕ

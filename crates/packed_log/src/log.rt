@@ -1,16 +1,18 @@
 //! The packed log.
-ghost use Rattle.std.specs.Prelude.{◌≡◌, ◌*◌, ◌++◌, length, drop, replicate, OnErr};
+ghost use Rattle.std.specs.Prelude.{◌≡◌, ◌++◌, length, drop, replicate, OnErr};
+ghost use Rattle.std.specs.Option.{option_map};
 ghost use Rattle.stores.specs.Calls.{Appends, Drops};
 ghost use Rattle.stores.specs.Contents.{emptied};
-ghost use Rattle.entry_layout.specs.Layout.{capacity_of};
-ghost use Rattle.packed_log.specs.Log.{packed, room};
 ghost use Rattle.stores.specs.Laws.{Lawful};
-ghost use Rattle.packed_log.specs.Meaning.{LogState, log_state, contents_of, Sound, Laid};
+ghost use Rattle.entry_layout.specs.Layout.{capacity_of};
+ghost use Rattle.packed_log.specs.Log.{packed, room, found_from};
+ghost use Rattle.packed_log.specs.Meaning.{LogState, log_state, contents_of, standing_of, Sound, Laid};
+ghost use Rattle.packed_log.specs.Walk.{placed};
 
 use crate::moves::take_out;
-use crate::walk::place_of;
+use crate::walk::Entries;
 use entry_layout::capacity::{HEADER_LENGTH, MAX_ENTRY_LENGTH, capacity_of};
-use entry_layout::entry::{entry_at, read_entry, write_entry};
+use entry_layout::entry::{EntryRef, read_entry, write_entry};
 use entry_layout::parts::fill_zero;
 use std::marker::Model;
 use stores::admission::Standing;
@@ -59,6 +61,23 @@ impl<'a> PackedLog<'a> {
     {
         self.bytes
     }
+
+    fn standing(&self) -> Standing
+        ensures { result ≡ standing_of (contents_of self.now) }
+    {
+        Standing {
+            held: self.held,
+            last: self.last,
+            capacity: self.capacity(),
+        }
+    }
+
+    // The entry with this number, and the place where it begins.
+    fn find(&self, number: u32) -> Option<(usize, EntryRef<'_>)>
+        ensures { option_map placed result ≡ found_from number 0 (contents_of self.now).held }
+    {
+        Entries::new(self.bytes, self.held).find(|(_, entry)| entry.number == number)
+    }
 }
 
 impl Store for PackedLog<'_> {
@@ -78,22 +97,17 @@ impl Store for PackedLog<'_> {
         ensures bytes { Laid self.old self.new }
         ensures same { OnErr result (self.new ≡ self.old) }
     {
-        let standing = Standing {
-            held: self.held,
-            last: self.last,
-            capacity: self.capacity(),
-        };
-        standing.admit(number, block)?;
-        let at = self.used;
-        write_entry(self.bytes, at, number, block);
-        self.used = at.saturating_add(HEADER_LENGTH + block.len());
+        self.standing().admit(number, block)?;
+        write_entry(self.bytes, self.used, number, block);
+        self.used += HEADER_LENGTH + block.len();
         self.held += 1;
         self.last = number;
         Ok(())
     }
 
     fn read(&self, number: u32, buffer: &mut [u8]) -> Result<usize, Refusal> {
-        read_entry(self.bytes, place_of(self.bytes, self.held, number), buffer)
+        let at = self.find(number).map(|(at, _)| at);
+        read_entry(self.bytes, at, buffer)
     }
 
     fn drop_entry(&mut self, number: u32) -> Result<(), Refusal>
@@ -102,18 +116,11 @@ impl Store for PackedLog<'_> {
         ensures bytes { Laid self.old self.new }
         ensures same { OnErr result (self.new ≡ self.old) }
     {
-        let held = self.held;
-        let Some(at) = place_of(self.bytes(), held, number) else {
-            return Err(Refusal::NoSuchEntry);
-        };
-        let Some(entry) = entry_at(self.bytes(), at) else {
-            return Err(Refusal::NoSuchEntry);
-        };
+        let (at, entry) = self.find(number).ok_or(Refusal::NoSuchEntry)?;
         let size = entry.size();
-        let end = self.used;
-        take_out(self.bytes, at, size, end);
-        self.used = end.saturating_sub(size);
-        self.held = held.saturating_sub(1);
+        take_out(self.bytes, at, size, self.used);
+        self.used -= size;
+        self.held -= 1;
         Ok(())
     }
 

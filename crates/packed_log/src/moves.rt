@@ -12,6 +12,6 @@ pub fn take_out(bytes: &mut [u8], at: usize, size: usize, end: usize)
     if end > bytes.len() || at > end || size > end - at {
         return;
     }
-    bytes[at..end].rotate_left(size);
+    bytes.copy_within(at + size..end, at);
     fill_zero(bytes, end - size, end);
 }

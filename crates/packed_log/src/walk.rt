@@ -1,22 +1,45 @@
 //! Walks over entries that stand end to end.
 ghost use Rattle.std.specs.Prelude.{◌≡◌};
-ghost use Rattle.packed_log.specs.Log.{entries_in, place_from};
+ghost use Rattle.std.specs.Iterator.{YieldsFirstBy, item_count};
+ghost use Rattle.packed_log.specs.Log.{entries_in, placed_from};
+ghost use Rattle.packed_log.specs.Walk.{placed, ahead};
 
-use entry_layout::entry::entry_at;
+use entry_layout::entry::{EntryRef, entry_at};
 
-// The first byte of the entry with this number, among so many entries from the front on.
-pub fn place_of(bytes: &[u8], count: usize, number: u32) -> Option<usize>
-    ensures { result ≡ place_from number 0 (entries_in count bytes.now) }
-{
-    let mut at = 0;
-    for _turn in 0..count {
-        let Some(entry) = entry_at(bytes, at) else {
-            return None;
-        };
-        if entry.number == number {
-            return Some(at);
+/// Entries that stand end to end, each with the place where it begins.
+#[derive(Drop)]
+pub struct Entries<'a> {
+    bytes: &'a [u8],
+    at: usize,
+    left: usize,
+}
+
+impl<'a> Entries<'a> {
+    /// So many entries from the front on, or fewer where fewer stand there.
+    pub fn new(bytes: &'a [u8], count: usize) -> Entries<'a>
+        ensures { ahead result ≡ placed_from 0 (entries_in count bytes.now) }
+    {
+        Entries {
+            bytes,
+            at: 0,
+            left: count,
         }
-        at += entry.size();
     }
-    None
+}
+
+impl<'a> Iterator for Entries<'a> {
+    type Item = (usize, EntryRef<'a>);
+
+    ghost next_gives = { YieldsFirstBy placed ahead };
+
+    ghost remaining = { item_count ahead };
+
+    fn next(&mut self) -> Option<(usize, EntryRef<'a>)> {
+        let left = self.left.checked_sub(1)?;
+        let entry = entry_at(self.bytes, self.at)?;
+        let at = self.at;
+        self.at += entry.size();
+        self.left = left;
+        Some((at, entry))
+    }
 }

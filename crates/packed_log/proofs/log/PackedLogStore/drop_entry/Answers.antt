@@ -1,55 +1,43 @@
-use Rattle.std.proofs.Common.{Some, None, refl}
-use Rattle.stores.proofs.Kept.{drop_accepted}
-use Rattle.stores.specs.Contents.{Entry, entry}
-use Rattle.packed_log.specs.Meaning.{log_state, contents_of}
-use Rattle.packed_log.proofs.Steps.{place_in_log, entry_in_log, entry_never_missing, log_dropped, drop_refused}
+use Rattle.std.proofs.Common.{◌≡◌, ℕ, Err, Result, sym, refl, ap, ◌∙◌, arith}
+use Rattle.std.specs.Option.{option_map}
+use Rattle.values.specs.declared.refusal.Refusal.{Refusal}
+use Rattle.values.specs.declared.refusal.Refusal.TheVariants.{NoSuchEntry}
+use Rattle.std.proofs.lemmas.Result.{err_from_is_err_and}
+use Rattle.entry_layout.specs.Views.{viewed}
+use Rattle.entry_layout.specs.declared.entry.EntryRef.{EntryRef}
+use Rattle.packed_log.specs.Meaning.{contents_of}
+use Rattle.packed_log.specs.Walk.{placed}
+use Rattle.packed_log.proofs.Steps.{size_within, log_dropped, drop_found, drop_refused}
 use Rattle.packed_log.proofs.log.PackedLogStore.drop_entry.Goals as goal
 
-pub returns-in_default : goal.returns-in_default
-returns-in_default c =
-    let log = log_state c.self.inside.bytes.now c.self.inside.held c.self.inside.last c.self.inside.used in
-    let nowhere = place_in_log log c.args.number c.bytes.result.now None (rw (← c.self.view_is) at c.bytes.ensures.value) c.in_default.ensures in
-    rw (← c.self.view_is) (record {
-      drops = record { answered = drop_refused (contents_of log) c.args.number nowhere; unaltered = refl };
-      lawful = c.self.invariant.lawful;
-      bytes = c.self.invariant.laid;
-      same = refl;
-    })
+pub overflow_sub-self : goal.overflow_sub-self
+overflow_sub-self c =
+    let stands = sym (ap (option_map placed) c.in_ok-at.ensures.ok_part) ∙ (rw (← c.self.view_is) at c.find.ensures) in
+    let within = size_within c.args.number c.in_ok-at.at (viewed c.in_ok-at.entry) c.self.invariant stands in
+    let size = c.size-size.ensures in
+    omega arith
 
--- A sound log has an entry wherever a number has its place.
-pub returns-in_default-entry_at : goal.returns-in_default-entry_at
-returns-in_default-entry_at c =
-    let log = log_state c.self.inside.bytes.now c.self.inside.held c.self.inside.last c.self.inside.used in
-    let place = place_in_log log c.args.number c.bytes.result.now (Some c.in-Some.at) (rw (← c.self.view_is) at c.bytes.ensures.value) c.in-Some.ensures in
-    let missing = entry_in_log log c.in-Some.at c.bytes-2.result.now None (rw (← c.self.view_is) at c.bytes-2.ensures.value) c.in_default-entry_at.ensures.entry in
-    absurd (entry_never_missing log c.args.number c.in-Some.at c.self.invariant place missing)
+pub returns-in_err-at-clause-drops : goal.returns-in_err-at-clause-drops
+returns-in_err-at-clause-drops c =
+    let nothing = sym (ap (option_map placed) c.in_err-at.ensures.ok_part) ∙ c.find.ensures in
+    let missing : ◌≡◌ {A = Result (ℕ × EntryRef) Refusal} (Err c.in_err-at.field-0.0) (Err NoSuchEntry) =
+    rw c.in_err-at.ensures.ok_part at c.in_err-at.ensures.value in
+    let same : c.in_err-at.field-0.0 ≡ NoSuchEntry = cc in
+    let p = err_from_is_err_and c.from_residual.result c.from_residual.ensures.1 in
+    rw (p.1, p.2, same) (record { answered = drop_refused (contents_of c.args.self.now) c.args.number nothing; unaltered = refl })
 
 pub invariant_of-self : goal.invariant_of-self
 invariant_of-self c =
-    let log = log_state c.self.inside.bytes.now c.self.inside.held c.self.inside.last c.self.inside.used in
-    let e : Entry = entry c.in-Some-entry_at.entry.number c.in-Some-entry_at.entry.block.now in
-    let place = place_in_log log c.args.number c.bytes.result.now (Some c.in-Some.at) (rw (← c.self.view_is) at c.bytes.ensures.value) c.in-Some.ensures in
-    let stands = entry_in_log log c.in-Some.at c.bytes-2.result.now (Some e) (rw (← c.self.view_is) at c.bytes-2.ensures.value) c.in-Some-entry_at.ensures.entry in
-    let held = c.saturating_sub-self-inside-2.result in
-    let used = c.saturating_sub-self-inside.result in
-    (log_dropped log c.take_out.new.bytes held used c.args.number c.in-Some.at c.size-size.result e c.self.invariant place stands
-    c.size-size.ensures c.take_out.ensures c.saturating_sub-self-inside-2.ensures c.saturating_sub-self-inside.ensures).0.sound
+    let stands = sym (ap (option_map placed) c.in_ok-at.ensures.ok_part) ∙ (rw (← c.self.view_is) at c.find.ensures) in
+    (log_dropped c.args.number c.in_ok-at.at _ (viewed c.in_ok-at.entry) _ c.self.invariant stands c.size-size.ensures c.take_out.ensures).sound
 
 pub returns : goal.returns
 returns c =
-    let log = log_state c.self.inside.bytes.now c.self.inside.held c.self.inside.last c.self.inside.used in
-    let e : Entry = entry c.in-Some-entry_at.entry.number c.in-Some-entry_at.entry.block.now in
-    let place = place_in_log log c.args.number c.bytes.result.now (Some c.in-Some.at) (rw (← c.self.view_is) at c.bytes.ensures.value) c.in-Some.ensures in
-    let stands = entry_in_log log c.in-Some.at c.bytes-2.result.now (Some e) (rw (← c.self.view_is) at c.bytes-2.ensures.value) c.in-Some-entry_at.ensures.entry in
-    let held = c.saturating_sub-self-inside-2.result in
-    let used = c.saturating_sub-self-inside.result in
-    let after = log_state c.take_out.new.bytes held log.last used in
-    let done =
-    log_dropped log c.take_out.new.bytes held used c.args.number c.in-Some.at c.size-size.result e c.self.invariant place stands
-    c.size-size.ensures c.take_out.ensures c.saturating_sub-self-inside-2.ensures c.saturating_sub-self-inside.ensures in
+    let stands = sym (ap (option_map placed) c.in_ok-at.ensures.ok_part) ∙ (rw (← c.self.view_is) at c.find.ensures) in
+    let done = log_dropped c.args.number c.in_ok-at.at _ (viewed c.in_ok-at.entry) _ c.self.invariant stands c.size-size.ensures c.take_out.ensures in
     rw (← c.self.view_is) (record {
-      drops = record { answered = drop_accepted (contents_of log) (contents_of after) c.args.number done.1 done.0.contents; unaltered = tt };
-      lawful = done.0.sound.lawful;
-      bytes = done.0.laid;
+      drops = record { answered = drop_found _ _ c.args.number c.in_ok-at.at (viewed c.in_ok-at.entry) stands done.contents; unaltered = tt };
+      lawful = done.sound.lawful;
+      bytes = done.laid;
       same = tt;
     })
