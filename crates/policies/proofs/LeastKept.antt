@@ -1,10 +1,12 @@
 -- The laws of `first_kept`: it is the least kept moment of its stretch, and no other answer is.
-use Rattle.std.proofs.Common.{◌≡◌, ℕ, zero, suc, ◌-◌, ◌<◌, ◌≤◌, Bool, true, false, cond, Some, None, Option, sym, refl, ap, inl, inr, arith}
+use Rattle.std.proofs.Common.{◌≡◌, ℕ, zero, suc, ◌+◌, ◌-◌, ◌<◌, ◌≤◌, Bool, true, false, cond, Some, None, Option, sym, refl, ap, inl, inr, arith}
+use Rattle.std.specs.Prelude.{find}
+use Rattle.std.specs.List.{range_with_len}
 use Rattle.std.proofs.lemmas.Bool.{both_ways, cases_eq, cases_order}
-use Rattle.policies.specs.FirstKept.{first_among, first_kept, LeastKept, FirstKeptIsLeast}
+use Rattle.policies.specs.FirstKept.{first_kept, LeastKept, FirstKeptIsLeast}
 
 -- The least kept moment after `t` is also the least from `t` on, where `t` is not kept.
-least_from_before : (kept : ℕ → Bool) (t m : ℕ) (o : Option ℕ) → kept t ≡ false → LeastKept kept (suc t) m o → LeastKept kept t m o
+least_from_before : (kept : ℕ → Bool) (t m : ℕ) (o : Option ℕ) → kept t ≡ false → LeastKept kept (t + 1) m o → LeastKept kept t m o
 least_from_before kept t m None e none = λ j from to. elim (cases_eq t j) [
   | inl s ↦ rw (sym s) e
   | inr d ↦ none j (omega arith) to
@@ -20,20 +22,21 @@ least_from_before kept t m (Some k) e l = (
 )
 
 -- One step of the search: the least is `t` where that is kept, and else the least after it.
-least_of_first : (kept : ℕ → Bool) (t m : ℕ) (b : Bool) (o : Option ℕ) → t ≤ m → kept t ≡ b → LeastKept kept (suc t) m o → LeastKept kept t m (cond b (Some t) o)
+least_of_first : (kept : ℕ → Bool) (t m : ℕ) (b : Bool) (o : Option ℕ) → t ≤ m → kept t ≡ b → LeastKept kept (t + 1) m o → LeastKept kept t m (cond b (Some t) o)
 least_of_first kept t m true o to e l = (omega arith, to, e, λ j from below. absurd (omega arith))
 least_of_first kept t m false o to e l = least_from_before kept t m o e l
 
--- The first kept of the moments from `t` to `m` is the least, with `count` of them.
-first_among_is_least : (kept : ℕ → Bool) (count t m : ℕ) → count ≡ suc m - t → LeastKept kept t m (first_among kept count t)
-first_among_is_least kept zero t m e = λ j from to. absurd (omega arith)
-first_among_is_least kept (suc count) t m e =
-    least_of_first kept t m (kept t) (first_among kept count (suc t)) (omega arith) refl (first_among_is_least kept count (suc t) m (omega arith))
+-- The first kept of `count` moments from `t` on is the least of them.
+find_is_least : (kept : ℕ → Bool) (count t m : ℕ) → count ≡ suc m - t → LeastKept kept t m (find kept (range_with_len t count))
+find_is_least kept zero t m e = λ j from to. absurd (omega arith)
+find_is_least kept (suc count) t m e =
+    least_of_first kept t m (kept t) (find kept (range_with_len (t + 1) count)) (omega arith) refl
+    (find_is_least kept count (t + 1) m (omega arith))
 
 -- The answer of `first_kept` is the least kept moment, and none only where no moment is kept.
 pub first_kept_is_least : FirstKeptIsLeast
 unfolding first_kept
-first_kept_is_least kept t m = first_among_is_least kept (suc m - t) t m refl
+first_kept_is_least kept t m = find_is_least kept (suc m - t) t m refl
 
 -- There is only one least kept moment.
 least_is_one : (kept : ℕ → Bool) (t m : ℕ) (o p : Option ℕ) → LeastKept kept t m o → LeastKept kept t m p → o ≡ p

@@ -1,6 +1,5 @@
--- What `Moment::new(n).ok()` gives where `n` is the number of a moment.
-use Rattle.std.proofs.Common.{◌≡◌, ℕ, ◌≤◌, true, leb, is_some, Some, None, Ok, Err, Option, Result, sym, refl, ◌∙◌, arith}
-use Rattle.std.proofs.lemmas.Bool.{le-leb}
+-- What `Moment::try_from(n).ok()` gives where `n` is the number of a moment.
+use Rattle.std.proofs.Common.{◌≡◌, ℕ, ◌≤◌, leb, is_some, Some, Ok, Err, Option, Result, arith}
 use Rattle.std.proofs.lemmas.Bool.Decides.{nat_tests}
 use Rattle.std.specs.Option.{option_map}
 use Rattle.std.specs.Result.{result_ok}
@@ -20,8 +19,4 @@ pub found_is_made : (n from m : ℕ) (r : Result Moment Refusal) (o : Option Mom
     → (option_map (λ t. t.value) o ≡ Some n) × (is_some o ≡ leb from m)
 found_is_made n from m r o part e within to limit =
     let made : option_map (λ t. t.value) o ≡ Some n = rw part (moment_is_made n r e (omega arith)) in
-    (made, some o made ∙ sym (le-leb from m to))
-  where
-    some : (o : Option Moment) → option_map (λ t. t.value) o ≡ Some n → is_some o ≡ true
-    some None e = cc
-    some (Some t) e = refl
+    (made, grind (arith, nat_tests))

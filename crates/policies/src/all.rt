@@ -19,13 +19,10 @@ impl Policy for All {
     ghost bounded = { Prim.search rules };
 
     fn keeps(&self, t: Moment, present: Moment) -> bool {
-        t.number() <= present.number()
+        t <= present
     }
 
     fn first_kept(&self, from: Moment, present: Moment) -> Option<Moment> {
-        if from.number() > present.number() {
-            return None;
-        }
-        Some(from)
+        (from <= present).then_some(from)
     }
 }

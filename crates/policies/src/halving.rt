@@ -3,7 +3,7 @@ ghost use Rattle.std.specs.Prelude.{◌≡◌, ◌<◌, ◌≤◌};
 ghost use Rattle.values.specs.Answers.{answer};
 ghost use Rattle.policies.specs.Kept.{kept_by_halving};
 ghost use Rattle.policies.specs.Settings.{halving_setting};
-ghost use Rattle.policies.specs.Halving.{candidate};
+ghost use Rattle.policies.specs.Halving.{candidate, limit_of};
 ghost use Rattle.std.proofs.Common.{rules};
 
 use crate::policy::Policy;
@@ -41,16 +41,25 @@ impl Halving {
         self.reach
     }
 
+    /// How old a moment may be and still be kept: the reach, doubled for each zero bit at the low
+    /// end of the moment's number. None for moment 0, which is always kept.
+    pub fn limit(self, t: Moment) -> Option<u32>
+        ensures { result ≡ limit_of self.reach t.value }
+    {
+        if t == Moment::ZERO {
+            return None;
+        }
+        Some(self.reach << t.number().trailing_zeros())
+    }
+
     // The first multiple of two to the power `zeros` that is not below `from` and that the
     // policy keeps for being such a multiple.
-    fn first_multiple(self, zeros: u32, from: u32, present: u32) -> u32
-        requires zeros { zeros < 20 }
-        requires from { from ≤ present }
-        requires present { present ≤ 1048575 }
-        ensures { result ≡ candidate self.reach zeros from present }
+    fn first_multiple(self, zeros: u32, from: Moment, present: Moment) -> u32
+        requires { zeros < 20 }
+        ensures { result ≡ candidate self.reach zeros from.value present.value }
     {
-        let oldest = present.saturating_sub(self.reach << zeros);
-        from.max(oldest).next_multiple_of(1 << zeros)
+        let oldest = present.number().saturating_sub(self.reach << zeros);
+        from.number().max(oldest).next_multiple_of(1 << zeros)
     }
 }
 
@@ -64,25 +73,22 @@ impl Policy for Halving {
     ghost bounded = { Prim.search rules };
 
     fn keeps(&self, t: Moment, present: Moment) -> bool {
-        let t = t.number();
-        let present = present.number();
-        if t > present {
-            return false;
-        }
-        t == 0 || present - t <= self.reach << t.trailing_zeros()
+        t <= present
+            && self
+                .limit(t)
+                .is_none_or(|limit| present.number() - t.number() <= limit)
     }
 
     fn first_kept(&self, from: Moment, present: Moment) -> Option<Moment> {
-        if from.number() > present.number() {
+        if from > present {
             return None;
         }
-        if from.number() == 0 {
+        if from == Moment::ZERO {
             return Some(from);
         }
-        let mut first = present.number();
-        for zeros in 0..MOMENT_BITS {
-            first = first.min(self.first_multiple(zeros, from.number(), present.number()));
-        }
-        Moment::new(first).ok()
+        let first = (0..MOMENT_BITS)
+            .map(|zeros| self.first_multiple(zeros, from, present))
+            .fold(present.number(), u32::min);
+        Moment::try_from(first).ok()
     }
 }

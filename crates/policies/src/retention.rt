@@ -10,6 +10,8 @@ use std::fmt;
 use values::moment::Moment;
 
 /// A policy of any kind.
+// The kinds are closed and nothing lies on a heap, so this is an enum. A `&dyn Policy` in its methods
+// would be no shorter: each would keep its three arms.
 #[derive(Clone, Copy, PartialEq, Eq, Debug)]
 pub enum Retention {
     All,

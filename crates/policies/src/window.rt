@@ -44,14 +44,14 @@ impl Policy for Window {
     ghost bounded = { Prim.search rules };
 
     fn keeps(&self, t: Moment, present: Moment) -> bool {
-        t.number() <= present.number() && present.number() - t.number() <= self.length
+        t <= present && present.number() - t.number() <= self.length
     }
 
     fn first_kept(&self, from: Moment, present: Moment) -> Option<Moment> {
-        if from.number() > present.number() {
+        if from > present {
             return None;
         }
         let oldest = present.number().saturating_sub(self.length);
-        Moment::new(from.number().max(oldest)).ok()
+        Moment::try_from(from.number().max(oldest)).ok()
     }
 }

@@ -6,5 +6,5 @@ use Rattle.policies.proofs.halving.Halving.first_multiple.Goals as goal
 pub returns : goal.returns
 returns c =
     let step = one_shl c.args.zeros 32 (omega arith) in
-    let age = reach_is_whole c.args.self.reach c.args.zeros c.args.self.within c.requires.zeros in
-    c.next_multiple_of.ensures.value ∙ simp (c.max.ensures, c.saturating_sub-oldest.ensures, step, age)
+    let age = reach_is_whole c.args.self.reach c.args.zeros c.args.self.within c.requires in
+    c.next_multiple_of.ensures.value ∙ simp (c.max.ensures, c.saturating_sub-oldest.ensures, c.number.ensures, c.number-2.ensures, step, age)
