@@ -1,32 +1,42 @@
--- Counting kept moments one by one, and the rows of a table of ages.
-use Rattle.std.proofs.Common.{◌≡◌, ℕ, zero, suc, ◌+◌, ◌-◌, ◌^◌, ◌<◌, ◌≤◌, Bool, ltb, None, sym, ap, ◌∙◌, arith, pow_mono}
-use Rattle.std.proofs.lemmas.Bool.{cond-true, lt-ltb}
-use Rattle.reports.specs.Counts.{one_if, kept_among, count_kept}
+-- Counting kept moments, and the rows of a table of ages.
+use Rattle.std.proofs.Common.{◌≡◌, ℕ, zero, suc, ◌+◌, ◌-◌, ◌^◌, ◌<◌, ◌≤◌, Bool, false, ltb, leb, ◌&&◌, None, Ok, Err, Result, length, sym, refl, arith, pow_mono, ap₂, cond, ◌∙◌}
+use Rattle.std.proofs.lemmas.Bool.{cond-true, lt-ltb, le-leb}
+use Rattle.std.proofs.lemmas.Bool.Decides.{nat_tests}
+use Rattle.std.proofs.lemmas.List.Sums.{length-filter, sum_by-cons}
+use Rattle.std.specs.Prelude.{filter, count_by, MatchResult}
+use Rattle.std.specs.List.{range_with_len}
+use Rattle.values.specs.Answers.{answer}
+use Rattle.values.specs.Moments.{moment_at}
+use Rattle.values.specs.declared.moment.Moment.{Moment}
+use Rattle.values.specs.declared.refusal.Refusal.{Refusal}
+use Rattle.reports.specs.Counts.{count_kept}
 use Rattle.reports.specs.Stretches.{ages_of}
 
--- One moment more, at the end.
-kept_among_and_next : (kept : ℕ → Bool) (n t : ℕ) → kept_among kept (suc n) t ≡ kept_among kept n t + one_if (kept (t + n))
-kept_among_and_next kept zero t = let e : one_if (kept (t + 0)) ≡ one_if (kept t) = ap (λ (x : ℕ). one_if (kept x)) (omega arith) in omega arith
-kept_among_and_next kept (suc n) t =
-    let e : one_if (kept (suc t + n)) ≡ one_if (kept (t + suc n)) = ap (λ (x : ℕ). one_if (kept x)) (omega arith) in
-    omega (arith, kept_among_and_next kept n (suc t))
+-- Whether a number is that of a kept moment, as a test of numbers finds out.
+abbrev pub is_kept : (kept : ℕ → Bool) (n : ℕ) → Bool
+is_kept kept n = leb n 1048575 && kept n
 
--- A turn of the loop that counts.
-pub count_next : (kept : ℕ → Bool) (first number count one : ℕ) → first ≤ number → count ≡ kept_among kept (number - first) first → one ≡ one_if (kept number)
-    → count + one ≡ kept_among kept (number + 1 - first) first
-count_next kept first number count one h e o =
-    let n : number + 1 - first ≡ suc (number - first) = omega arith in
-    let more : kept_among kept (number + 1 - first) first ≡ kept_among kept (suc (number - first)) first = ap (λ (k : ℕ). kept_among kept k first) n in
-    let at : one_if (kept (first + (number - first))) ≡ one_if (kept number) = ap (λ (x : ℕ). one_if (kept x)) (omega arith) in
-    let next : kept_among kept (suc (number - first)) first ≡ kept_among kept (number - first) first + one_if (kept (first + (number - first))) = kept_among_and_next kept (number - first) first in
-    omega arith
+-- What the test answers, where the number is made into a moment and the moment is asked about.
+pub is_kept_by_cases : (kept : ℕ → Bool) (n : ℕ) (b : Bool) (r : Result Moment Refusal) → answer (λ m. m.value) r ≡ moment_at n
+    → MatchResult r (λ t. b ≡ kept t.value) (λ _. b ≡ false) → b ≡ is_kept kept n
+is_kept_by_cases kept n b (Ok t) e h = grind (arith, nat_tests)
+is_kept_by_cases kept n b (Err x) e h = grind (arith, nat_tests)
 
--- The loop has gone through every moment, or there was none.
-pub count_at_end : (kept : ℕ → Bool) (start first last number count : ℕ) → start ≡ first → count ≡ kept_among kept (number - start) start → number - start ≡ suc last - start
-    → count ≡ count_kept kept first last
+-- Over numbers of moments the test is that the moment is kept.
+count_by_is_kept : (kept : ℕ → Bool) (n t : ℕ) → t + n ≤ 1048576 → count_by (is_kept kept) (range_with_len t n) ≡ count_by kept (range_with_len t n)
+count_by_is_kept kept zero t h = refl
+count_by_is_kept kept (suc n) t h =
+    let low : is_kept kept t ≡ kept t = rw (le-leb t 1048575 (omega arith)) in
+    let rest = range_with_len (t + 1) n in
+    sum_by-cons (λ x. cond (is_kept kept x) 1 0) t rest
+    ∙ ap₂ (λ (b : Bool) (k : ℕ). cond b 1 0 + k) low (count_by_is_kept kept n (t + 1) (omega arith))
+    ∙ sym (sum_by-cons (λ x. cond (kept x) 1 0) t rest)
+
+-- So the test counts the kept moments of a stretch.
+pub count_of_kept : (kept : ℕ → Bool) (first last : ℕ) → first ≤ last → last ≤ 1048575 → length (filter (is_kept kept) (range_with_len first (last + 1 - first))) ≡ count_kept kept first last
 unfolding count_kept
-count_at_end kept start first last number count s e h =
-    e ∙ ap (λ (k : ℕ). kept_among kept k start) h ∙ ap (λ (x : ℕ). kept_among kept (suc last - x) x) s
+count_of_kept kept first last ordered h =
+    length-filter (is_kept kept) (range_with_len first (last + 1 - first)) ∙ count_by_is_kept kept (last + 1 - first) first (omega arith)
 
 -- No moment is so old that it would stand in a row above the twentieth.
 pub no_row_above : (row m : ℕ) → 20 < row → m ≤ 1048575 → None ≡ ages_of row m

@@ -1,5 +1,10 @@
 -- The parts of a stretch of moments, each by its first and last.
-use Rattle.std.specs.Prelude.{◌≡◌, ℕ, zero, suc, ◌+◌, ◌-◌, ◌*◌, ◌/◌, ◌%◌, ◌^◌, ◌<◌, ◌≤◌, min, max, Bool, false, cond, ◌&&◌, Some, None, Option, ◌==◌, nat_le, nat_lt}
+use Rattle.std.specs.Prelude.{◌≡◌, ℕ, zero, suc, ◌+◌, ◌-◌, ◌*◌, ◌/◌, ◌%◌, ◌^◌, ◌<◌, ◌≤◌, min, max, Bool, false, cond, ◌&&◌, Some, None, Option, ◌==◌, nat_le, nat_lt, if◌then◌else◌}
+use Rattle.values.specs.Moments.{last_moment}
+
+-- The moments from the number `first` to the number `last`, or none where these give no stretch.
+abbrev pub stretch_between : (first last : ℕ) → Option (ℕ × ℕ)
+stretch_between first last = if nat_le first last && nat_le last last_moment then Some (first, last) else None
 
 -- How many moments each of at most `columns` columns of a stretch has: so few that the columns hold all.
 abbrev pub column_width : (columns first last : ℕ) → ℕ

@@ -1,9 +1,8 @@
 //! Why a policy keeps a moment or gives it up.
-ghost use Rattle.std.specs.Prelude.{◌≡◌, ◌≤◌};
+ghost use Rattle.std.specs.Prelude.{◌≡◌};
 ghost use Rattle.policies.specs.Retentions.{kept_by};
-ghost use Rattle.reports.specs.Grounds.{grounds_of, reach_grounds, kept_on};
+ghost use Rattle.reports.specs.Grounds.{grounds_of, kept_on};
 
-use policies::halving::Halving;
 use policies::retention::Retention;
 use std::fmt;
 use values::moment::Moment;
@@ -38,18 +37,25 @@ impl Grounds {
         ensures grounds { result ≡ grounds_of retention t.value present.value }
         ensures verdict { kept_on result ≡ kept_by retention t.value present.value }
     {
-        let t = t.number();
-        let present = present.number();
         if t > present {
             return Grounds::AfterNow;
         }
+        let age = present.number() - t.number();
         match retention {
             Retention::All => Grounds::KeepsAll,
             Retention::Window(window) => Grounds::WithinWindow {
-                age: present - t,
+                age,
                 length: window.length(),
             },
-            Retention::Halving(halving) => reach_grounds(halving, t, present),
+            Retention::Halving(halving) => match halving.limit(t) {
+                Some(limit) => Grounds::WithinReach {
+                    age,
+                    reach: halving.reach(),
+                    zeros: t.number().trailing_zeros(),
+                    limit,
+                },
+                None => Grounds::KeepsZero,
+            },
         }
     }
 
@@ -59,30 +65,10 @@ impl Grounds {
     {
         match self {
             Grounds::AfterNow => false,
-            Grounds::KeepsAll => true,
-            Grounds::KeepsZero => true,
+            Grounds::KeepsAll | Grounds::KeepsZero => true,
             Grounds::WithinWindow { age, length } => age <= length,
             Grounds::WithinReach { age, limit, .. } => age <= limit,
         }
-    }
-}
-
-// The grounds of halving, for a moment that is not above the present.
-fn reach_grounds(halving: Halving, t: u32, present: u32) -> Grounds
-    requires past { t ≤ present }
-    requires within { present ≤ 1048575 }
-    ensures { result ≡ reach_grounds halving.reach t present }
-{
-    if t == 0 {
-        return Grounds::KeepsZero;
-    }
-    let zeros = t.trailing_zeros();
-    let limit = halving.reach() << zeros;
-    Grounds::WithinReach {
-        age: present - t,
-        reach: halving.reach(),
-        zeros,
-        limit,
     }
 }
 

@@ -1,14 +1,12 @@
-use Rattle.std.proofs.Common.{refl, arith}
-use Rattle.reports.proofs.Counting.{count_next, count_at_end}
+use Rattle.std.proofs.Common.{ℕ, Bool, ◌+◌, ◌∙◌, rules}
+use Rattle.std.proofs.lemmas.Iterator.{YieldsList-from_range}
+use Rattle.std.proofs.lemmas.Iterator.Consumers.{YieldsList-from_filter, count_from_yields_List}
+use Rattle.reports.proofs.Counting.{is_kept, is_kept_by_cases, count_of_kept}
 use Rattle.reports.proofs.stretch.Stretch.kept.Goals as goal
-
-pub loop-number-preserved : goal.loop-number-preserved
-loop-number-preserved g c = (
-  count_next _ _ _ _ _ c.loop-number.auto.number c.loop-number.invariant.0 (c.one_if_kept-count.ensures.value (omega arith)),
-  omega (arith, c.loop-number.invariant.1, c.one_if_kept-count.ensures.within),
-)
 
 pub returns : goal.returns
 returns g c =
-    count_at_end (λ t. g.P.Policy.kept c.args.policy.now t c.args.present.value) _ c.args.self.first c.args.self.last _ _
-    refl c.loop-number.invariant.0 (omega (arith, c.loop-number.auto.number, c.loop-number.auto.number-end (omega arith)))
+    let kept : ℕ → Bool = λ t. g.P.Policy.kept c.args.policy.now t c.args.present.value in
+    count_from_yields_List _ _ c.count.ensures.ran
+    (YieldsList-from_filter _ (is_kept kept) (YieldsList-from_range c.args.self.first.value (c.args.self.last.value + 1) _ (cc) (search rules)) c.filter.ensures.closure (λ x b q k. (search rules, search (rules, is_kept_by_cases))))
+    ∙ count_of_kept kept c.args.self.first.value c.args.self.last.value c.args.self.ordered c.args.self.last.within
