@@ -54,10 +54,7 @@ impl Picture {
         columns: u32,
         f: &mut fmt::Formatter<W>,
     ) -> fmt::Result {
-        for index in 0..columns {
-            let Some(column) = stretch.column(index, columns) else {
-                return Ok(());
-            };
+        for column in (0..columns).map_while(|index| stretch.column(index, columns)) {
             let mark = column.mark(&self.retention, self.present);
             write!(f, "{mark}")?;
         }
@@ -99,10 +96,7 @@ impl fmt::Display for Picture {
         self.write_summary(f)?;
         self.write_timeline(f)?;
         f.write_str(TABLE_HEAD)?;
-        for row in 0..ROWS {
-            let Some(stretch) = Stretch::ages(row, self.present) else {
-                return Ok(());
-            };
+        for stretch in (0..ROWS).map_while(|row| Stretch::ages(row, self.present)) {
             self.write_row(stretch, f)?;
         }
         Ok(())
