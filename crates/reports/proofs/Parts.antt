@@ -1,8 +1,10 @@
 -- The columns of a stretch, and the rows of a table of ages, hold each moment once.
-use Rattle.std.proofs.Common.{◌≡◌, ℕ, zero, suc, ◌+◌, ◌-◌, ◌*◌, ◌/◌, ◌%◌, ◌^◌, ◌<◌, ◌≤◌, min, max, Bool, true, ◌&&◌, eqb, ltb, leb, None, sym, ap, ◌∙◌, subst, inl, inr, mul-le-mul_right, mod-lt, mul_comm, div-lt_iff_lt-mul, add-mul, pow-suc, div-add-mod', mul-add, div-mul-le_self, arith, pow_pos, pow_mono}
+use Rattle.std.proofs.Common.{◌≡◌, ℕ, zero, suc, ◌+◌, ◌-◌, ◌*◌, ◌/◌, ◌^◌, ◌<◌, ◌≤◌, min, max, Bool, true, ◌&&◌, eqb, ltb, leb, None, sym, ap, ◌∙◌, subst, inl, inr, mul-le-mul_right, mul_comm, div-lt_iff_lt-mul, add-mul, pow-suc, div-mul-le_self, arith, pow_pos, pow_mono}
 use native.Mathlib.Nat.{lt-div-mul-add}
 use Rattle.std.proofs.lemmas.Bool.{cases_Bool, cases_lt, cases_order, cond-true, cond-false, lt-ltb, le-ltb, le-leb, lt-leb, leb-true, ltb-true, eqb-true, eq-eqb, ne_eqb, and_left, and_from, and_parts}
 use Rattle.std.proofs.lemmas.Bool.Decides.{nat_tests}
+use Rattle.std.proofs.lemmas.Grind.{div_ceil_times}
+use Rattle.std.specs.Int.{div_ceil}
 use Rattle.reports.specs.Stretches.{column_width, column_from, ages_of, holds, ColumnsHoldEachOnce, RowsHoldEachOnce}
 
 -- A column holds what begins at its start and comes before the next column's.
@@ -33,23 +35,12 @@ step_holds first width x i j t e low high = elim (cases_order j i) [
   ]
 ]
 
--- Division rounded up is enough, and not 0 for a number that is not 0.
-rounded_division_is_enough : (n c : ℕ) → 0 < c → n ≤ c * (n / c + min 1 (n % c))
-rounded_division_is_enough n c pos =
-    let product : c * (n / c + min 1 (n % c)) ≡ c * (n / c) + c * min 1 (n % c) = mul-add c (n / c) (min 1 (n % c)) in
-    elim (cases_lt 0 (n % c)) [
-      | inl more ↦
-          let one : c * min 1 (n % c) ≡ c * 1 = ap (λ (x : ℕ). c * x) (omega arith) in
-          omega (arith, mod-lt n pos, div-add-mod' n c, mul_comm c (n / c))
-      | inr exact ↦ omega (arith, div-add-mod' n c, mul_comm c (n / c))
-    ]
-
-rounded_division_is_positive : (n c : ℕ) → 0 < n → 0 < c → 0 < n / c + min 1 (n % c)
-rounded_division_is_positive n c h pos = elim (cases_lt 0 (n / c + min 1 (n % c))) [
+rounded_division_is_positive : (n c : ℕ) → 0 < n → 0 < c → 0 < div_ceil n c
+rounded_division_is_positive n c h pos = elim (cases_lt 0 (div_ceil n c)) [
   | inl more ↦ more
   | inr none ↦
-      let z : c * (n / c + min 1 (n % c)) ≡ c * 0 = ap (λ (x : ℕ). c * x) (omega arith) in
-      absurd (omega (arith, rounded_division_is_enough n c pos))
+      let z : div_ceil n c * c ≡ 0 * c = ap (λ (x : ℕ). x * c) (omega arith) in
+      absurd (omega (arith, (div_ceil_times n c pos).0))
 ]
 
 -- Columns of a width that suffices hold each moment once.
@@ -67,11 +58,10 @@ columns_of_width width columns first last t pos enough from to =
 
 pub columns_hold_each_once : ColumnsHoldEachOnce
 columns_hold_each_once columns first last t pos from to =
-    let same : max columns 1 ≡ columns = omega arith in
     let n : ℕ = last + 1 - first in
-    let enough : n ≤ max columns 1 * column_width columns first last = rounded_division_is_enough n (max columns 1) (omega arith) in
-    let order : n ≤ columns * column_width columns first last =
-    subst (λ (c : ℕ). n ≤ c * column_width columns first last) same enough in
+    let same : max columns 1 ≡ columns = omega arith in
+    let enough : n ≤ max columns 1 * column_width columns first last = rw mul_comm (div_ceil_times n (max columns 1) (omega arith)).0 in
+    let order : n ≤ columns * column_width columns first last = subst (λ (c : ℕ). n ≤ c * column_width columns first last) same enough in
     columns_of_width (column_width columns first last) columns first last t (rounded_division_is_positive n (max columns 1) (omega arith) (omega arith))
     order from to
 

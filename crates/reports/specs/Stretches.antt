@@ -1,5 +1,6 @@
 -- The parts of a stretch of moments, each by its first and last.
-use Rattle.std.specs.Prelude.{◌≡◌, ℕ, zero, suc, ◌+◌, ◌-◌, ◌*◌, ◌/◌, ◌%◌, ◌^◌, ◌<◌, ◌≤◌, min, max, Bool, false, cond, ◌&&◌, Some, None, Option, ◌==◌, nat_le, nat_lt, if◌then◌else◌}
+use Rattle.std.specs.Prelude.{◌≡◌, ℕ, zero, suc, ◌+◌, ◌-◌, ◌*◌, ◌^◌, ◌<◌, ◌≤◌, min, max, Bool, false, cond, ◌&&◌, Some, None, Option, ◌==◌, nat_le, nat_lt, if◌then◌else◌}
+use Rattle.std.specs.Int.{div_ceil}
 use Rattle.values.specs.Moments.{last_moment}
 
 -- The moments from the number `first` to the number `last`, or none where these give no stretch.
@@ -8,7 +9,7 @@ stretch_between first last = if nat_le first last && nat_le last last_moment the
 
 -- How many moments each of at most `columns` columns of a stretch has: so few that the columns hold all.
 abbrev pub column_width : (columns first last : ℕ) → ℕ
-column_width columns first last = (last + 1 - first) / max columns 1 + min 1 ((last + 1 - first) % max columns 1)
+column_width columns first last = div_ceil (last + 1 - first) (max columns 1)
 
 -- The column that begins at `start`, within a stretch up to `last`.
 abbrev pub column_from : (start width last : ℕ) → Option (ℕ × ℕ)
