@@ -1,5 +1,5 @@
 -- The arguments of a command.
-use Rattle.std.specs.Prelude.{ℕ, Bool, cond, not, List, [], ◌∷◌, Some, None, Ok, Err, Option, Result}
+use Rattle.std.specs.Prelude.{ℕ, Bool, not, if◌then◌else◌, List, [], ◌∷◌, Some, None, Ok, Err, Option, Result}
 use Rattle.commands.specs.declared.fault.Fault.{Fault}
 use Rattle.commands.specs.declared.fault.Fault.TheVariants.{TooFewWords, TooManyWords}
 use Rattle.commands.specs.Numbers.{number_in}
@@ -13,11 +13,11 @@ and_then (Err e) next = Err e
 -- Tests with their faults in order: the first that applies, or the outcome.
 abbrev pub unless_faulty : {Y : Type 0} → List (Bool × Fault) → Result Y Fault → Result Y Fault
 unless_faulty [] outcome = outcome
-unless_faulty (t ∷ ts) outcome = cond t.0 (Err t.1) (unless_faulty ts outcome)
+unless_faulty (t ∷ ts) outcome = if t.0 then Err t.1 else unless_faulty ts outcome
 
 -- A number that may be left out.
 abbrev pub optional_number : List ℕ → Result (Option ℕ) Fault
-optional_number word = cond (is_empty word) (Ok None) (and_then (number_in word) (λ n. Ok (Some n)))
+optional_number word = if is_empty word then Ok None else and_then (number_in word) (λ n. Ok (Some n))
 
 -- MOMENT [NOW]
 abbrev pub moment_and_now : (arguments : List ℕ) → Result (ℕ × Option ℕ) Fault

@@ -1,5 +1,5 @@
 -- The command that a line is, and what is wrong with a line that is none.
-use Rattle.std.specs.Prelude.{ℕ, Bool, cond, not, ◌&&◌, List, [], ◌∷◌, length, Some, None, Ok, Err, Option, Result, ◌==◌, nat_lt, slice_index}
+use Rattle.std.specs.Prelude.{ℕ, Bool, not, ◌&&◌, if◌then◌else◌, List, [], ◌∷◌, length, Some, None, Ok, Err, Option, Result, ◌==◌, nat_lt, slice_index}
 use Rattle.commands.specs.declared.command.Command.{Command}
 use Rattle.commands.specs.declared.command.Command.TheVariants.{Nothing, New, Keeps, FirstKept, Kept, Why, Help}
 use Rattle.commands.specs.declared.command.Verb.{Verb}
@@ -26,7 +26,7 @@ with_verb (Some v) arguments = with_arguments v arguments
 
 -- The command that the words of a line are. A line without a word is passed over.
 abbrev pub command_of : (line : List ℕ) → Result Command Fault
-command_of line = cond (is_empty (first_word line)) (Ok Nothing) (with_verb (verb_of (first_word line)) (after_word line))
+command_of line = if is_empty (first_word line) then Ok Nothing else with_verb (verb_of (first_word line)) (after_word line)
 
 -- A comment begins with `#` (35).
 abbrev pub is_comment : (line : List ℕ) → Bool
@@ -35,5 +35,5 @@ is_comment line = nat_lt 0 (length line) && slice_index line 0 == 35
 -- The command that a line is, where `text` says whether its bytes are UTF-8.
 abbrev pub command_in : (text : Bool) (line : List ℕ) → Result Command Fault
 command_in text line =
-    cond (is_comment line) (Ok Nothing)
-    (unless_faulty ((nat_lt 4096 (length line), LineTooLong) ∷ (not text, NotText) ∷ []) (command_of line))
+    if is_comment line then Ok Nothing
+    else unless_faulty ((nat_lt 4096 (length line), LineTooLong) ∷ (not text, NotText) ∷ []) (command_of line)

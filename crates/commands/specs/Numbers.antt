@@ -1,5 +1,5 @@
 -- The number that a word writes.
-use Rattle.std.specs.Prelude.{ℕ, cond, List, Ok, Err, Result, nat_lt}
+use Rattle.std.specs.Prelude.{ℕ, List, if◌then◌else◌, Ok, Err, Result, nat_lt}
 use Rattle.std.specs.Str.Parse.{digits_value}
 use Rattle.commands.specs.Words.{is_numeral}
 use Rattle.commands.specs.declared.fault.Fault.{Fault}
@@ -11,4 +11,6 @@ largest_number = 4294967295
 
 unfoldable pub number_in : List ℕ → Result ℕ Fault
 number_in word =
-    cond (is_numeral word) (cond (nat_lt largest_number (digits_value 10 word)) (Err NumberTooLarge) (Ok (digits_value 10 word))) (Err NotANumber)
+    if is_numeral word
+    then (if nat_lt largest_number (digits_value 10 word) then Err NumberTooLarge else Ok (digits_value 10 word))
+    else Err NotANumber

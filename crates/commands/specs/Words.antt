@@ -1,10 +1,12 @@
 -- The words of a line: they are separated by one or more spaces.
-use Rattle.std.specs.Prelude.{ℕ, zero, suc, Bool, not, ◌&&◌, List, length, take, drop, ◌==◌, nat_le}
-use Rattle.values.specs.Bytes.{every, place_of, place_where}
+use Rattle.std.specs.Prelude.{ℕ, zero, suc, Bool, ◌&&◌, List, length, take, drop, ◌==◌, nat_le}
+use Rattle.std.specs.Char.{is_ascii_digit}
+use Rattle.std.specs.List.{list_all, prefix_len}
+use Rattle.values.specs.Bytes.{place_of}
 
 -- How many spaces the bytes begin with.
 abbrev pub spaces_before : List ℕ → ℕ
-spaces_before = place_where (λ b. not (b == 32))
+spaces_before = prefix_len (λ b. b == 32)
 
 abbrev pub after_spaces : List ℕ → List ℕ
 after_spaces line = drop (spaces_before line) line
@@ -32,9 +34,6 @@ behind_byte byte text = drop (suc (place_of byte text)) text
 abbrev pub is_empty : List ℕ → Bool
 is_empty bs = length bs == 0
 
-abbrev pub is_digit : ℕ → Bool
-is_digit b = nat_le 48 b && nat_le b 57
-
 -- One or more decimal digits.
 abbrev pub is_numeral : List ℕ → Bool
-is_numeral word = nat_le 1 (length word) && every is_digit word
+is_numeral word = nat_le 1 (length word) && list_all is_ascii_digit word

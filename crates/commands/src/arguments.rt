@@ -12,7 +12,7 @@ fn optional_number(word: &[u8]) -> Result<Option<u32>, Fault>
     if word.is_empty() {
         return Ok(None);
     }
-    Ok(Some(number(word)?))
+    number(word).map(Some)
 }
 
 /// MOMENT [NOW]
@@ -20,14 +20,11 @@ pub fn moment_and_now(arguments: &[u8]) -> Result<(u32, Option<u32>), Fault>
     ensures { result ≡ moment_and_now arguments.now }
 {
     let (moment, rest) = split_word(arguments);
-    let (at, rest) = split_word(rest);
-    let (more, _) = split_word(rest);
     if moment.is_empty() {
         return Err(Fault::TooFewWords);
     }
-    if !more.is_empty() {
-        return Err(Fault::TooManyWords);
-    }
+    let (at, rest) = split_word(rest);
+    nothing_more(rest, ())?;
     Ok((number(moment)?, optional_number(at)?))
 }
 
@@ -36,10 +33,7 @@ pub fn only_now(arguments: &[u8]) -> Result<Option<u32>, Fault>
     ensures { result ≡ only_now arguments.now }
 {
     let (at, rest) = split_word(arguments);
-    let (more, _) = split_word(rest);
-    if !more.is_empty() {
-        return Err(Fault::TooManyWords);
-    }
+    nothing_more(rest, ())?;
     optional_number(at)
 }
 
@@ -48,13 +42,10 @@ pub fn only_number(arguments: &[u8]) -> Result<u32, Fault>
     ensures { result ≡ only_number arguments.now }
 {
     let (limit, rest) = split_word(arguments);
-    let (more, _) = split_word(rest);
     if limit.is_empty() {
         return Err(Fault::TooFewWords);
     }
-    if !more.is_empty() {
-        return Err(Fault::TooManyWords);
-    }
+    nothing_more(rest, ())?;
     number(limit)
 }
 

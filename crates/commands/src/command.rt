@@ -1,12 +1,13 @@
 //! Commands, and how a line is read as one.
-ghost use Rattle.std.specs.Prelude.{◌≡◌, Bool, IsUtf8, Decides};
+ghost use Rattle.std.specs.Prelude.{◌≡◌};
+ghost use Rattle.std.specs.Str.{is_utf8};
 ghost use Rattle.commands.specs.Verbs.{verb_of};
 ghost use Rattle.commands.specs.Commands.{with_arguments, command_of, is_comment, command_in};
 
 use crate::arguments::{moment_and_now, nothing_more, only_now};
 use crate::fault::Fault;
 use crate::setting::{Setting, level_setting, new_setting};
-use crate::words::{is_word, split_word};
+use crate::words::split_word;
 use std::str::from_utf8;
 
 // The most bytes in a line.
@@ -36,31 +37,21 @@ pub enum Verb {
     Help,
 }
 
+// The command that begins with this word.
+#[tactic(auto, using(crate::proofs::Texts::word_with_bytes))]
 fn verb_in(word: &[u8]) -> Option<Verb>
     ensures { result ≡ verb_of word.now }
 {
-    if is_word(word, "new") {
-        return Some(Verb::New);
+    match word {
+        b"new" => Some(Verb::New),
+        b"level" => Some(Verb::Level),
+        b"keeps" => Some(Verb::Keeps),
+        b"first-kept" => Some(Verb::FirstKept),
+        b"kept" => Some(Verb::Kept),
+        b"why" => Some(Verb::Why),
+        b"help" => Some(Verb::Help),
+        _ => None,
     }
-    if is_word(word, "level") {
-        return Some(Verb::Level);
-    }
-    if is_word(word, "keeps") {
-        return Some(Verb::Keeps);
-    }
-    if is_word(word, "first-kept") {
-        return Some(Verb::FirstKept);
-    }
-    if is_word(word, "kept") {
-        return Some(Verb::Kept);
-    }
-    if is_word(word, "why") {
-        return Some(Verb::Why);
-    }
-    if is_word(word, "help") {
-        return Some(Verb::Help);
-    }
-    None
 }
 
 // The command with this first word.
@@ -68,24 +59,14 @@ fn with_arguments(verb: Verb, arguments: &[u8]) -> Result<Command, Fault>
     ensures { result ≡ with_arguments verb arguments.now }
 {
     match verb {
-        Verb::New => Ok(Command::New(new_setting(arguments)?)),
-        Verb::Level => Ok(Command::New(level_setting(arguments)?)),
-        Verb::Keeps => {
-            let (moment, at) = moment_and_now(arguments)?;
-            Ok(Command::Keeps { moment, at })
-        }
+        Verb::New => new_setting(arguments).map(Command::New),
+        Verb::Level => level_setting(arguments).map(Command::New),
+        Verb::Keeps => moment_and_now(arguments).map(|(moment, at)| Command::Keeps { moment, at }),
         Verb::FirstKept => {
-            let (moment, at) = moment_and_now(arguments)?;
-            Ok(Command::FirstKept { moment, at })
+            moment_and_now(arguments).map(|(moment, at)| Command::FirstKept { moment, at })
         }
-        Verb::Kept => {
-            let at = only_now(arguments)?;
-            Ok(Command::Kept { at })
-        }
-        Verb::Why => {
-            let (moment, at) = moment_and_now(arguments)?;
-            Ok(Command::Why { moment, at })
-        }
+        Verb::Kept => only_now(arguments).map(|at| Command::Kept { at }),
+        Verb::Why => moment_and_now(arguments).map(|(moment, at)| Command::Why { moment, at }),
         Verb::Help => nothing_more(arguments, Command::Help),
     }
 }
@@ -98,20 +79,18 @@ fn parse_words(line: &[u8]) -> Result<Command, Fault>
     if word.is_empty() {
         return Ok(Command::Nothing);
     }
-    match verb_in(word) {
-        Some(verb) => with_arguments(verb, arguments),
-        None => Err(Fault::UnknownCommand),
-    }
+    let verb = verb_in(word).ok_or(Fault::UnknownCommand)?;
+    with_arguments(verb, arguments)
 }
 
 fn is_comment(line: &[u8]) -> bool
     ensures { result ≡ is_comment line.now }
 {
-    line.len() > 0 && line[0] == b'#'
+    line.first() == Some(&b'#')
 }
 
 fn is_text(line: &[u8]) -> bool
-    ensures { Decides result (IsUtf8 line.now) }
+    ensures { result ≡ is_utf8 line.now }
 {
     from_utf8(line).is_ok()
 }
@@ -119,7 +98,7 @@ fn is_text(line: &[u8]) -> bool
 impl Command {
     /// Reads a line as a command. A comment, and a line without words, is the command to do nothing.
     pub fn read(line: &[u8]) -> Result<Command, Fault>
-        ensures { (text : Bool) → Decides text (IsUtf8 line.now) → result ≡ command_in text line.now }
+        ensures { result ≡ command_in (is_utf8 line.now) line.now }
     {
         if is_comment(line) {
             return Ok(Command::Nothing);

@@ -15,16 +15,15 @@ pub enum Setting {
 }
 
 // window:N or halving:N, from what stands before and behind the colon.
+#[tactic(auto, using(crate::proofs::Texts::word_with_bytes))]
 fn limited_setting(kind: &[u8], limit: &[u8]) -> Result<Setting, Fault>
     ensures { result ≡ limited_setting kind.now limit.now }
 {
-    if is_word(kind, "window") {
-        return Ok(Setting::Window(number(limit)?));
+    match kind {
+        b"window" => number(limit).map(Setting::Window),
+        b"halving" => number(limit).map(Setting::Halving),
+        _ => Err(Fault::UnknownPolicy),
     }
-    if is_word(kind, "halving") {
-        return Ok(Setting::Halving(number(limit)?));
-    }
-    Err(Fault::UnknownPolicy)
 }
 
 // all, window:N or halving:N
@@ -54,10 +53,7 @@ pub fn new_setting(arguments: &[u8]) -> Result<Setting, Fault>
     ensures { result ≡ new_setting arguments.now }
 {
     let (word, rest) = split_word(arguments);
-    let (more, _) = split_word(rest);
-    if !more.is_empty() {
-        return Err(Fault::TooManyWords);
-    }
+    nothing_more(rest, ())?;
     if word.is_empty() {
         return Ok(Setting::All);
     }
@@ -65,18 +61,15 @@ pub fn new_setting(arguments: &[u8]) -> Result<Setting, Fault>
 }
 
 /// solo N, studio N or archive
+#[tactic(auto, using(crate::proofs::Texts::word_with_bytes))]
 pub fn level_setting(arguments: &[u8]) -> Result<Setting, Fault>
     ensures { result ≡ level_setting arguments.now }
 {
     let (level, rest) = split_word(arguments);
-    if is_word(level, "solo") {
-        return Ok(Setting::Window(only_number(rest)?));
+    match level {
+        b"solo" => only_number(rest).map(Setting::Window),
+        b"studio" => only_number(rest).map(Setting::Halving),
+        b"archive" => nothing_more(rest, Setting::All),
+        _ => Err(Fault::UnknownLevel),
     }
-    if is_word(level, "studio") {
-        return Ok(Setting::Halving(only_number(rest)?));
-    }
-    if is_word(level, "archive") {
-        return nothing_more(rest, Setting::All);
-    }
-    Err(Fault::UnknownLevel)
 }
