@@ -1,5 +1,5 @@
 -- What the program replies to a command, in the state that the command finds.
-use Rattle.std.specs.Prelude.{◌≡◌, ℕ, cond, ◌||◌, Some, None, Ok, Err, Option, Result, nat_lt}
+use Rattle.std.specs.Prelude.{◌≡◌, ℕ, ◌||◌, if◌then◌else◌, Some, None, Ok, Err, Option, Result, nat_lt}
 use Rattle.values.specs.Moments.{last_moment}
 use Rattle.values.specs.Refusals.{number_of}
 use Rattle.values.specs.declared.refusal.Refusal.{Refusal}
@@ -70,14 +70,14 @@ now_or (Some n) m = n
 
 -- A question about two moments, turned down where one of the numbers is no moment.
 abbrev pub at_moments : (t n : ℕ) → Reply → Reply
-at_moments t n reply = cond (nat_lt last_moment t || nat_lt last_moment n) (refused 24) reply
+at_moments t n reply = if nat_lt last_moment t || nat_lt last_moment n then refused 24 else reply
 
 abbrev pub first_reply : Option ℕ → Reply
 first_reply None = none
 first_reply (Some t) = moment t
 
 abbrev pub keeps_reply : Retention → (t n : ℕ) → Reply
-keeps_reply r t n = at_moments t n (cond (kept_by r t n) yes no)
+keeps_reply r t n = at_moments t n (if kept_by r t n then yes else no)
 
 abbrev pub first_kept_reply : Retention → (t n : ℕ) → Reply
 first_kept_reply r t n = at_moments t n (first_reply (first_kept (λ u. kept_by r u n) t n))

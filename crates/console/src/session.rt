@@ -1,5 +1,6 @@
 //! The state that commands act on.
-ghost use Rattle.std.specs.Prelude.{◌≡◌, Bool, Ok, IsUtf8, Decides};
+ghost use Rattle.std.specs.Prelude.{◌≡◌, Ok};
+ghost use Rattle.std.specs.Str.{is_utf8};
 ghost use Rattle.values.specs.Answers.{answer};
 ghost use Rattle.values.specs.Moments.{moment_at};
 ghost use Rattle.commands.specs.Commands.{command_in};
@@ -23,8 +24,8 @@ fn retention_with(setting: Setting) -> Result<Retention, Refusal>
 {
     match setting {
         Setting::All => Ok(Retention::All),
-        Setting::Window(length) => Ok(Retention::Window(Window::new(length)?)),
-        Setting::Halving(reach) => Ok(Retention::Halving(Halving::new(reach)?)),
+        Setting::Window(length) => Window::new(length).map(Retention::Window),
+        Setting::Halving(reach) => Halving::new(reach).map(Retention::Halving),
     }
 }
 
@@ -51,32 +52,25 @@ impl Session {
     fn present_or(&self, at: Option<u32>) -> Result<Moment, Refusal>
         ensures { answer (λ m. m.value) result ≡ moment_at (now_or at self.now.present.value) }
     {
-        match at {
-            Some(number) => Moment::new(number),
-            None => Ok(self.present),
-        }
+        at.map_or(Ok(self.present), Moment::try_from)
     }
 
     fn keeps(&self, moment: u32, at: Option<u32>) -> Result<Answer, Refusal>
         ensures { result_reply result ≡ keeps_reply self.now.retention moment (now_or at self.now.present.value) }
     {
-        let t = Moment::new(moment)?;
+        let t = Moment::try_from(moment)?;
         let present = self.present_or(at)?;
-        if self.retention.keeps(t, present) {
-            return Ok(Answer::Yes);
-        }
-        Ok(Answer::No)
+        let kept = self.retention.keeps(t, present);
+        Ok(if kept { Answer::Yes } else { Answer::No })
     }
 
     fn first_kept(&self, moment: u32, at: Option<u32>) -> Result<Answer, Refusal>
         ensures { result_reply result ≡ first_kept_reply self.now.retention moment (now_or at self.now.present.value) }
     {
-        let t = Moment::new(moment)?;
+        let t = Moment::try_from(moment)?;
         let present = self.present_or(at)?;
-        match self.retention.first_kept(t, present) {
-            Some(first) => Ok(Answer::At(first)),
-            None => Ok(Answer::Absent),
-        }
+        let first = self.retention.first_kept(t, present);
+        Ok(first.map_or(Answer::Absent, Answer::At))
     }
 
     fn kept(&self, at: Option<u32>) -> Result<Answer, Refusal>
@@ -89,7 +83,7 @@ impl Session {
     fn why(&self, moment: u32, at: Option<u32>) -> Result<Answer, Refusal>
         ensures { result_reply result ≡ why_reply self.now.retention moment (now_or at self.now.present.value) }
     {
-        let t = Moment::new(moment)?;
+        let t = Moment::try_from(moment)?;
         let present = self.present_or(at)?;
         Ok(Answer::Reason(Reason::new(self.retention, t, present)))
     }
@@ -100,11 +94,8 @@ impl Session {
         ensures setting { setting_of self.new.retention ≡ setting_made (made_setting setting) (setting_of self.old.retention) }
         ensures present { self.new.present.value ≡ moment_made (made_setting setting) self.old.present.value }
     {
-        let retention = retention_with(setting)?;
-        *self = Session {
-            retention,
-            present: Moment::ZERO,
-        };
+        self.retention = retention_with(setting)?;
+        self.present = Moment::ZERO;
         Ok(Answer::Ready)
     }
 
@@ -126,15 +117,12 @@ impl Session {
     pub fn run(&mut self, command: Command) -> Answer
         ensures { Answered self.old self.new (Ok command) (reply_of result) }
     {
-        match self.perform(command) {
-            Ok(answer) => answer,
-            Err(refusal) => Answer::Refused(refusal),
-        }
+        self.perform(command).unwrap_or_else(Answer::Refused)
     }
 
-    /// Answers a line. In the contract `text` is whether the line's bytes are UTF-8.
+    /// Answers a line.
     pub fn execute(&mut self, line: &[u8]) -> Answer
-        ensures { (text : Bool) → Decides text (IsUtf8 line.now) → Answered self.old self.new (command_in text line.now) (reply_of result) }
+        ensures { Answered self.old self.new (command_in (is_utf8 line.now) line.now) (reply_of result) }
     {
         match Command::read(line) {
             Ok(command) => self.run(command),
