@@ -8,68 +8,42 @@ fn lines_that_are_passed_over(rt: HostRuntime) -> Result<(), Fail> {
     dialogue.expect(b"", "")?;
     dialogue.expect(b"   ", "")?;
     dialogue.expect(b"# a comment", "")?;
-    dialogue.expect_since(b"#\xff",
-        "",
-        "a comment need not be text",
-    )
+    dialogue.expect_since(b"#\xff", "", "a comment need not be text")
 }
 
 #[test]
 fn levels_and_policies(rt: HostRuntime) -> Result<(), Fail> {
     let mut dialogue = Dialogue::new(&rt);
-    dialogue.expect_since(b"keeps 0",
-        "yes\n",
-        "a new vault is at moment 0",
-    )?;
+    dialogue.expect_since(b"keeps 0", "yes\n", "a new vault is at moment 0")?;
     dialogue.expect(b"keeps 1", "no\n")?;
     dialogue.expect(b"level solo 3", "ready\n")?;
     dialogue.expect(b"keeps 2 5", "yes\n")?;
     dialogue.expect(b"keeps 1 5", "no\n")?;
     dialogue.expect(b"level studio 2", "ready\n")?;
-    dialogue.expect(b"first-kept 5 10",
-        "moment 6\n",
-    )?;
+    dialogue.expect(b"first-kept 5 10", "moment 6\n")?;
     dialogue.expect(b"first-kept 11 10", "none\n")?;
     dialogue.expect(b"level archive", "ready\n")?;
-    dialogue.expect(b"first-kept 5 10",
-        "moment 5\n",
-    )?;
-    dialogue.expect(b"new keep=halving:0",
-        "ready\n",
-    )?;
-    dialogue.expect(b"first-kept 1 1048575",
-        "moment 1048575\n",
-    )?;
+    dialogue.expect(b"first-kept 5 10", "moment 5\n")?;
+    dialogue.expect(b"new keep=halving:0", "ready\n")?;
+    dialogue.expect(b"first-kept 1 1048575", "moment 1048575\n")?;
     dialogue.expect(b"new", "ready\n")?;
-    dialogue.expect_since(b"  keeps   7  1048575 ",
-        "yes\n",
-        "any number of spaces",
-    )
+    dialogue.expect_since(b"  keeps   7  1048575 ", "yes\n", "any number of spaces")
 }
 
 #[test]
 fn reasons(rt: HostRuntime) -> Result<(), Fail> {
     let mut dialogue = Dialogue::new(&rt);
-    dialogue.expect(b"why 12 40",
-        "12 is kept: every moment up to now is\n",
-    )?;
-    dialogue.expect(b"why 50 40",
-        "50 is not kept: it comes after now, 40\n",
-    )?;
+    dialogue.expect(b"why 12 40", "12 is kept: every moment up to now is\n")?;
+    dialogue.expect(b"why 50 40", "50 is not kept: it comes after now, 40\n")?;
     dialogue.expect(b"level solo 3", "ready\n")?;
-    dialogue.expect(b"why 37 40",
-        "37 is kept: 40 - 37 = 3 is at most 3\n",
-    )?;
-    dialogue.expect(b"why 36 40",
-        "36 is given up: 40 - 36 = 4 is above 3\n",
-    )?;
+    dialogue.expect(b"why 37 40", "37 is kept: 40 - 37 = 3 is at most 3\n")?;
+    dialogue.expect(b"why 36 40", "36 is given up: 40 - 36 = 4 is above 3\n")?;
     dialogue.expect(b"level studio 2", "ready\n")?;
-    dialogue.expect(b"why 12 40",
+    dialogue.expect(
+        b"why 12 40",
         "12 is given up: 40 - 12 = 28 is above 2 x 2^2 = 8\n",
     )?;
-    dialogue.expect(b"why 0 40",
-        "0 is kept: halving always keeps moment 0\n",
-    )
+    dialogue.expect(b"why 0 40", "0 is kept: halving always keeps moment 0\n")
 }
 
 #[test]

@@ -5,6 +5,7 @@ use std::process::Abort;
 use std::test::Fail;
 
 /// A session, and the runtime by which a test fails.
+#[derive(Drop)]
 pub struct Dialogue<'a, R> {
     rt: &'a R,
     session: Session,

@@ -26,18 +26,9 @@ const TOO_LONG: &str = "error: the line is longer than 4096 bytes\n";
 fn words(rt: HostRuntime) -> Result<(), Fail> {
     let mut dialogue = Dialogue::new(&rt);
     dialogue.expect(b"keep 1", UNKNOWN)?;
-    dialogue.expect_since(b"Keeps 1",
-        UNKNOWN,
-        "commands are in lower case",
-    )?;
-    dialogue.expect_since(b"keeps\t1",
-        UNKNOWN,
-        "a tab is no space",
-    )?;
-    dialogue.expect_since(b" # keeps",
-        UNKNOWN,
-        "a comment begins the line",
-    )?;
+    dialogue.expect_since(b"Keeps 1", UNKNOWN, "commands are in lower case")?;
+    dialogue.expect_since(b"keeps\t1", UNKNOWN, "a tab is no space")?;
+    dialogue.expect_since(b" # keeps", UNKNOWN, "a comment begins the line")?;
     dialogue.expect(b"keeps", TOO_FEW)?;
     dialogue.expect(b"keeps 1 2 3", TOO_MANY)?;
     dialogue.expect(b"first-kept", TOO_FEW)?;
@@ -56,19 +47,11 @@ fn numbers(rt: HostRuntime) -> Result<(), Fail> {
     dialogue.expect(b"keeps -1", NO_NUMBER)?;
     dialogue.expect(b"keeps 1x", NO_NUMBER)?;
     dialogue.expect(b"keeps 1 :", NO_NUMBER)?;
-    dialogue.expect(b"keeps 4294967296",
-        TOO_LARGE,
-    )?;
-    dialogue.expect(b"keeps 99999999999999999999999",
-        TOO_LARGE,
-    )?;
-    dialogue.expect(b"keeps 1 99999999999x",
-        NO_NUMBER,
-    )?;
+    dialogue.expect(b"keeps 4294967296", TOO_LARGE)?;
+    dialogue.expect(b"keeps 99999999999999999999999", TOO_LARGE)?;
+    dialogue.expect(b"keeps 1 99999999999x", NO_NUMBER)?;
     dialogue.expect(b"kept 4294967296", TOO_LARGE)?;
-    dialogue.expect(b"keeps 0000000000000000000000000",
-        "yes\n",
-    )
+    dialogue.expect(b"keeps 0000000000000000000000000", "yes\n")
 }
 
 #[test]
@@ -79,13 +62,9 @@ fn settings(rt: HostRuntime) -> Result<(), Fail> {
     dialogue.expect(b"new keep=some", NO_POLICY)?;
     dialogue.expect(b"new keep=all:1", NO_POLICY)?;
     dialogue.expect(b"new keep=window", NO_NUMBER)?;
-    dialogue.expect(b"new keep=window:x",
-        NO_NUMBER,
-    )?;
+    dialogue.expect(b"new keep=window:x", NO_NUMBER)?;
     dialogue.expect(b"new colour=red", NO_SETTING)?;
-    dialogue.expect(b"new keep=all keep=all",
-        TOO_MANY,
-    )?;
+    dialogue.expect(b"new keep=all keep=all", TOO_MANY)?;
     dialogue.expect(b"level", NO_LEVEL)?;
     dialogue.expect(b"level gold", NO_LEVEL)?;
     dialogue.expect(b"level solo", TOO_FEW)?;
