@@ -1,5 +1,5 @@
 -- How an entry stands in bytes.
-use Rattle.std.specs.Prelude.{ℕ, ◌+◌, ◌-◌, ◌/◌, min, Bool, cond, ◌&&◌, List, [], ◌∷◌, ◌++◌, length, take, drop, replicate, Some, None, Option, nat_le, slice_index}
+use Rattle.std.specs.Prelude.{ℕ, ◌+◌, ◌-◌, ◌/◌, min, Bool, if◌then◌else◌, ◌&&◌, List, [], ◌∷◌, ◌++◌, length, take, drop, replicate, Some, None, Option, nat_le, slice_index}
 use Rattle.std.specs.Option.{option_map}
 use Rattle.values.specs.BigEndian.{big_endian, bytes_of}
 use Rattle.values.specs.Blocks.{max_block_length}
@@ -24,7 +24,7 @@ begins_entry bs = nat_le 1 (slice_index bs 4) && (nat_le (slice_index bs 4) max_
 
 -- The entry that bytes begin with.
 abbrev pub entry_in : List ℕ → Option Entry
-entry_in bs = cond (begins_entry bs) (Some (entry (big_endian 4 bs) (take (slice_index bs 4) (drop 5 bs)))) None
+entry_in bs = if begins_entry bs then Some (entry (big_endian 4 bs) (take (slice_index bs 4) (drop 5 bs))) else None
 
 -- The block of the entry that begins at a place, if there is such a place.
 abbrev pub block_at : (at : Option ℕ) → List ℕ → Option (List ℕ)
@@ -34,8 +34,11 @@ block_at (Some at) bytes = option_map (λ e. e.block) (entry_in (drop at bytes))
 -- Bytes with an entry written over them from a place on, where it fits.
 abbrev pub with_entry : (at : ℕ) → Entry → List ℕ → List ℕ
 with_entry at e bytes =
-    cond (nat_le (length e.block) max_block_length && nat_le (at + 5 + length e.block) (length bytes)) (over at (entry_bytes e) bytes) bytes
+    if nat_le (length e.block) max_block_length && nat_le (at + 5 + length e.block) (length bytes)
+    then over at (entry_bytes e) bytes
+    else bytes
 
 -- Bytes with zeros from one place to another, where there are such places.
 abbrev pub zeroed : (from to : ℕ) → List ℕ → List ℕ
-zeroed from to bytes = cond (nat_le from to && nat_le to (length bytes)) (over from (replicate (to - from) 0) bytes) bytes
+zeroed from to bytes =
+    if nat_le from to && nat_le to (length bytes) then over from (replicate (to - from) 0) bytes else bytes

@@ -1,5 +1,5 @@
 -- Entries that stand end to end in bytes.
-use Rattle.std.specs.Prelude.{ℕ, zero, suc, ◌+◌, ◌-◌, ◌*◌, cond, ◌&&◌, List, [], ◌∷◌, ◌++◌, length, take, drop, replicate, Some, None, Option, ◌==◌, nat_le}
+use Rattle.std.specs.Prelude.{ℕ, zero, suc, ◌+◌, ◌-◌, ◌*◌, if◌then◌else◌, ◌&&◌, List, [], ◌∷◌, ◌++◌, length, take, drop, replicate, Some, None, Option, ◌==◌, nat_le}
 use Rattle.std.specs.List.{find, flat_map}
 use Rattle.stores.specs.Contents.{Entry}
 use Rattle.entry_layout.specs.Layout.{capacity_of, entry_bytes, entry_in}
@@ -38,5 +38,6 @@ found_from number at es = find (λ p. p.1.number == number) (placed_from at es)
 -- Bytes with `size` of them taken out at a place: those behind, up to `end`, move down, and zeros follow.
 abbrev pub taken_out : (at size end : ℕ) → List ℕ → List ℕ
 taken_out at size end bytes =
-    cond (nat_le end (length bytes) && nat_le (at + size) end)
-    (take at bytes ++ (drop (at + size) (take end bytes) ++ (replicate size 0 ++ drop end bytes))) bytes
+    if nat_le end (length bytes) && nat_le (at + size) end
+    then take at bytes ++ (drop (at + size) (take end bytes) ++ (replicate size 0 ++ drop end bytes))
+    else bytes

@@ -1,5 +1,5 @@
 -- Why a policy keeps a moment or gives it up.
-use Rattle.std.specs.Prelude.{ℕ, ◌-◌, ◌*◌, ◌^◌, Bool, true, false, cond, ◌==◌, nat_le, nat_lt}
+use Rattle.std.specs.Prelude.{ℕ, ◌-◌, ◌*◌, ◌^◌, Bool, true, false, ◌==◌, nat_le, nat_lt, if◌then◌else◌}
 use Rattle.std.specs.Int.Count.{count_trailing_zeros}
 use Rattle.policies.specs.declared.retention.Retention.{Retention}
 use Rattle.policies.specs.declared.retention.Retention.TheVariants as retention
@@ -8,13 +8,15 @@ use Rattle.reports.specs.declared.reason.Grounds.TheVariants.{AfterNow, KeepsAll
 
 -- The grounds of halving on a moment that is not above the present.
 abbrev pub reach_grounds : (reach t m : ℕ) → Grounds
-reach_grounds reach t m = cond (t == 0) KeepsZero (WithinReach (m - t) reach (count_trailing_zeros 32 t) (reach * 2 ^ count_trailing_zeros 32 t))
+reach_grounds reach t m =
+    if t == 0 then KeepsZero
+    else WithinReach (m - t) reach (count_trailing_zeros 32 t) (reach * 2 ^ count_trailing_zeros 32 t)
 
 -- The grounds of a policy's verdict on the moment `t` at `m`.
 abbrev pub grounds_of : Retention → (t m : ℕ) → Grounds
-grounds_of retention.All t m = cond (nat_lt m t) AfterNow KeepsAll
-grounds_of (retention.Window w) t m = cond (nat_lt m t) AfterNow (WithinWindow (m - t) w.length)
-grounds_of (retention.Halving h) t m = cond (nat_lt m t) AfterNow (reach_grounds h.reach t m)
+grounds_of retention.All t m = if nat_lt m t then AfterNow else KeepsAll
+grounds_of (retention.Window w) t m = if nat_lt m t then AfterNow else WithinWindow (m - t) w.length
+grounds_of (retention.Halving h) t m = if nat_lt m t then AfterNow else reach_grounds h.reach t m
 
 -- The verdict on these grounds.
 abbrev pub kept_on : Grounds → Bool

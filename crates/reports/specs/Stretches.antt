@@ -1,5 +1,5 @@
 -- The parts of a stretch of moments, each by its first and last.
-use Rattle.std.specs.Prelude.{◌≡◌, ℕ, zero, suc, ◌+◌, ◌-◌, ◌*◌, ◌^◌, ◌<◌, ◌≤◌, min, max, Bool, false, cond, ◌&&◌, Some, None, Option, ◌==◌, nat_le, nat_lt, if◌then◌else◌}
+use Rattle.std.specs.Prelude.{◌≡◌, ℕ, zero, suc, ◌+◌, ◌-◌, ◌*◌, ◌^◌, ◌<◌, ◌≤◌, min, max, Bool, false, ◌&&◌, Some, None, Option, ◌==◌, nat_le, nat_lt, if◌then◌else◌}
 use Rattle.std.specs.Int.{div_ceil}
 use Rattle.values.specs.Moments.{last_moment}
 
@@ -13,7 +13,7 @@ column_width columns first last = div_ceil (last + 1 - first) (max columns 1)
 
 -- The column that begins at `start`, within a stretch up to `last`.
 abbrev pub column_from : (start width last : ℕ) → Option (ℕ × ℕ)
-column_from start width last = cond (nat_lt last start) None (Some (start, min last (start + width - 1)))
+column_from start width last = if nat_lt last start then None else Some (start, min last (start + width - 1))
 
 -- The column with this number, counted from 0.
 abbrev pub column_of : (index columns first last : ℕ) → Option (ℕ × ℕ)
@@ -21,7 +21,7 @@ column_of index columns first last = column_from (first + index * column_width c
 
 -- The moments whose ages at `m` go from `youngest` to below twice that.
 abbrev pub aged_from : (youngest m : ℕ) → Option (ℕ × ℕ)
-aged_from youngest m = cond (nat_lt m youngest) None (Some (m - (2 * youngest - 1), m - youngest))
+aged_from youngest m = if nat_lt m youngest then None else Some (m - (2 * youngest - 1), m - youngest)
 
 -- The moments in one row of a table of ages: age 0 in row 0, and in each later row ages from 2 ^ (row - 1) to 2 ^ row - 1.
 abbrev pub ages_of : (row m : ℕ) → Option (ℕ × ℕ)

@@ -1,5 +1,5 @@
 -- Searches among slots.
-use Rattle.std.specs.Prelude.{◌≡◌, ℕ, suc, ◌-◌, ◌<◌, ◌≤◌, Bool, true, false, cond, ◌⊎◌, List, [], ◌∷◌, length, take, drop, Some, None, Option, MatchOption, ◌==◌, nat_le, slice_index_or}
+use Rattle.std.specs.Prelude.{◌≡◌, ℕ, suc, ◌-◌, ◌<◌, ◌≤◌, Bool, true, false, ◌⊎◌, List, [], ◌∷◌, length, take, drop, Some, None, Option, MatchOption, ◌==◌, nat_le, slice_index_or, if◌then◌else◌}
 use Rattle.std.specs.List.{AllByRecursion}
 use Rattle.std.specs.Option.{option_or}
 use Rattle.stores.specs.Contents.{Entry}
@@ -14,7 +14,7 @@ holds (Some number) (Some e) = e.number == number
 -- The place of the first that passes a test, the first of the list standing at `at`.
 abbrev pub first_place : {X : Type 0} → (test : X → Bool) (at : ℕ) → List X → Option ℕ
 first_place test at [] = None
-first_place test at (x ∷ xs) = cond (test x) (Some at) (first_place test (suc at) xs)
+first_place test at (x ∷ xs) = if test x then Some at else first_place test (suc at) xs
 
 -- The first place from `start` on, and round to the front, that passes a test.
 abbrev pub going_round : {X : Type 0} → (test : X → Bool) (start : ℕ) → List X → Option ℕ
@@ -22,7 +22,7 @@ going_round test start xs = option_or (first_place test start (drop start xs)) (
 
 -- The slot so many places below another among `count` slots, going round.
 abbrev pub slot_below : (slot places count : ℕ) → ℕ
-slot_below slot places count = cond (nat_le places slot) (slot - places) (count - (places - slot))
+slot_below slot places count = if nat_le places slot then slot - places else count - (places - slot)
 
 -- Where the search for a number begins: where its entry stands if no slot was passed over since it was appended, as far
 -- below the slot filled last (the one below `next`) as the number is below the last number accepted.

@@ -1,5 +1,5 @@
 -- What a store holds.
-use Rattle.std.specs.Prelude.{ℕ, cond, List, [], ◌∷◌, ◌++◌, Some, None, Option, ◌==◌}
+use Rattle.std.specs.Prelude.{ℕ, List, [], ◌∷◌, ◌++◌, Some, None, Option, ◌==◌, if◌then◌else◌}
 
 -- A block under its number.
 pub record Entry : Type 0 where
@@ -25,7 +25,7 @@ appended number block c = record { held = c.held ++ entry number block ∷ []; l
 -- Entries without the one with this number.
 abbrev pub without : (number : ℕ) → List Entry → List Entry
 without number [] = []
-without number (e ∷ es) = cond (e.number == number) es (e ∷ without number es)
+without number (e ∷ es) = if e.number == number then es else (e ∷ without number es)
 
 -- The last number accepted stays, so a number is never accepted twice.
 abbrev pub dropped : (number : ℕ) → Contents → Contents
@@ -34,4 +34,4 @@ dropped number c = record { held = without number c.held; last = c.last; capacit
 -- The block under this number.
 abbrev pub block_of : (number : ℕ) → List Entry → Option (List ℕ)
 block_of number [] = None
-block_of number (e ∷ es) = cond (e.number == number) (Some e.block) (block_of number es)
+block_of number (e ∷ es) = if e.number == number then Some e.block else block_of number es

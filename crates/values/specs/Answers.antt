@@ -1,5 +1,5 @@
 -- What a call answers, with a refusal as its number.
-use Rattle.std.specs.Prelude.{◌≡◌, ℕ, Bool, cond, List, [], ◌∷◌, IfErr, Ok, Err, Result}
+use Rattle.std.specs.Prelude.{◌≡◌, ℕ, Bool, List, [], ◌∷◌, IfErr, Ok, Err, Result, if◌then◌else◌}
 use Rattle.values.specs.Refusals.{number_of}
 use Rattle.values.specs.declared.refusal.Refusal.{Refusal}
 
@@ -11,7 +11,7 @@ answer read (Err e) = Err (number_of e)
 -- Tests in checking order, each with the refusal's number where it applies: the first that does, or the answer.
 abbrev pub unless_refused : {B : Type 0} → List (Bool × ℕ) → B → Result B ℕ
 unless_refused [] x = Ok x
-unless_refused (t ∷ ts) x = cond t.0 (Err t.1) (unless_refused ts x)
+unless_refused (t ∷ ts) x = if t.0 then Err t.1 else unless_refused ts x
 
 -- A call that may alter a state. Accepted, it shows what `expected` gives, `shown` being what is read off its value and
 -- off the state afterwards. Refused, it answers the number that `expected` gives, and the state is as it was before.

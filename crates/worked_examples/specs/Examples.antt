@@ -1,5 +1,5 @@
 -- Worked examples of the rules.
-use Rattle.std.specs.Prelude.{◌≡◌, ℕ, zero, suc, Bool, true, false, cond, List, [], ◌∷◌, Some, None, Ok, codes}
+use Rattle.std.specs.Prelude.{◌≡◌, ℕ, zero, suc, Bool, true, false, List, [], ◌∷◌, Some, None, Ok, codes, if◌then◌else◌}
 use Rattle.std.specs.declared.cmp.Ordering.TheVariants.{Less}
 use Rattle.names.specs.ByteOrder.{byte_order}
 use Rattle.names.specs.NameRule.{is_name}
@@ -12,7 +12,7 @@ use Rattle.policies.specs.Kept.{kept_by_window, kept_by_halving}
 -- The kept moments among `count` moments from `t` on.
 abbrev pub kept_from : (kept : ℕ → Bool) (count t : ℕ) → List ℕ
 kept_from kept zero t = []
-kept_from kept (suc count) t = cond (kept t) (t ∷ kept_from kept count (suc t)) (kept_from kept count (suc t))
+kept_from kept (suc count) t = if kept t then t ∷ kept_from kept count (suc t) else kept_from kept count (suc t)
 
 -- The kept moments from 0 to `m`, by whether a moment is kept at `m`.
 abbrev pub kept_moments : (kept : ℕ → ℕ → Bool) (m : ℕ) → List ℕ
