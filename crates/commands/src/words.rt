@@ -60,6 +60,7 @@ pub fn number(word: &[u8]) -> Result<u32, Fault>
     if !is_numeral(word) {
         return Err(Fault::NotANumber);
     }
+    // Digits are text, so this gives no fault of its own.
     let digits = from_utf8(word).or(Err(Fault::NotANumber))?;
     digits.parse().or(Err(Fault::NumberTooLarge))
 }
