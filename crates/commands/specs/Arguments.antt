@@ -1,5 +1,6 @@
 -- The arguments of a command.
 use Rattle.std.specs.Prelude.{ℕ, Bool, not, if◌then◌else◌, List, [], ◌∷◌, Some, None, Ok, Err, Option, Result}
+use Rattle.commands.specs.declared.arguments.Question.{Question}
 use Rattle.commands.specs.declared.fault.Fault.{Fault}
 use Rattle.commands.specs.declared.fault.Fault.TheVariants.{TooFewWords, TooManyWords}
 use Rattle.commands.specs.Numbers.{number_in}
@@ -20,10 +21,10 @@ abbrev pub optional_number : List ℕ → Result (Option ℕ) Fault
 optional_number word = if is_empty word then Ok None else and_then (number_in word) (λ n. Ok (Some n))
 
 -- MOMENT [NOW]
-abbrev pub moment_and_now : (arguments : List ℕ) → Result (ℕ × Option ℕ) Fault
+abbrev pub moment_and_now : (arguments : List ℕ) → Result Question Fault
 moment_and_now arguments =
     unless_faulty ((is_empty (word_at 0 arguments), TooFewWords) ∷ (not (is_empty (word_at 2 arguments)), TooManyWords) ∷ [])
-    (and_then (number_in (word_at 0 arguments)) (λ t. and_then (optional_number (word_at 1 arguments)) (λ at. Ok (t, at))))
+    (and_then (number_in (word_at 0 arguments)) (λ t. and_then (optional_number (word_at 1 arguments)) (λ at. Ok (record { moment = t; at = at }))))
 
 -- [NOW]
 abbrev pub only_now : (arguments : List ℕ) → Result (Option ℕ) Fault

@@ -2,5 +2,4 @@ pub mod Arguments
 pub mod Commands
 pub mod Numbers
 pub mod Settings
-pub mod Verbs
 pub mod Words

@@ -5,6 +5,13 @@ ghost use Rattle.commands.specs.Arguments.{optional_number, moment_and_now, only
 use crate::fault::Fault;
 use crate::words::{number, split_word};
 
+/// A moment that is asked about, and the present moment to suppose, if the line gives one.
+#[derive(Clone, Copy, PartialEq, Eq, Debug)]
+pub struct Question {
+    pub moment: u32,
+    pub at: Option<u32>,
+}
+
 // A number that may be left out.
 fn optional_number(word: &[u8]) -> Result<Option<u32>, Fault>
     ensures { result ≡ optional_number word.now }
@@ -16,7 +23,7 @@ fn optional_number(word: &[u8]) -> Result<Option<u32>, Fault>
 }
 
 /// MOMENT [NOW]
-pub fn moment_and_now(arguments: &[u8]) -> Result<(u32, Option<u32>), Fault>
+pub fn moment_and_now(arguments: &[u8]) -> Result<Question, Fault>
     ensures { result ≡ moment_and_now arguments.now }
 {
     let (moment, rest) = split_word(arguments);
@@ -25,7 +32,10 @@ pub fn moment_and_now(arguments: &[u8]) -> Result<(u32, Option<u32>), Fault>
     }
     let (at, rest) = split_word(rest);
     nothing_more(rest, ())?;
-    Ok((number(moment)?, optional_number(at)?))
+    Ok(Question {
+        moment: number(moment)?,
+        at: optional_number(at)?,
+    })
 }
 
 /// [NOW]

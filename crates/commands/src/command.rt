@@ -1,10 +1,9 @@
 //! Commands, and how a line is read as one.
 ghost use Rattle.std.specs.Prelude.{◌≡◌};
 ghost use Rattle.std.specs.Str.{is_utf8};
-ghost use Rattle.commands.specs.Verbs.{verb_of};
 ghost use Rattle.commands.specs.Commands.{with_arguments, command_of, is_comment, command_in};
 
-use crate::arguments::{moment_and_now, nothing_more, only_now};
+use crate::arguments::{Question, moment_and_now, nothing_more, only_now};
 use crate::fault::Fault;
 use crate::setting::{Setting, level_setting, new_setting};
 use crate::words::split_word;
@@ -13,61 +12,33 @@ use std::str::from_utf8;
 // The most bytes in a line.
 const LONGEST_LINE: usize = 4096;
 
-/// A command, with its numbers unchecked. `at` is the present moment to suppose, if the line gives one.
+/// A command, with its numbers unchecked.
 #[derive(Clone, Copy, PartialEq, Eq, Debug)]
 pub enum Command {
     Nothing,
     New(Setting),
-    Keeps { moment: u32, at: Option<u32> },
-    FirstKept { moment: u32, at: Option<u32> },
+    Keeps(Question),
+    FirstKept(Question),
+    /// `at` is the present moment to suppose, if the line gives one.
     Kept { at: Option<u32> },
-    Why { moment: u32, at: Option<u32> },
+    Why(Question),
     Help,
 }
 
-/// The first word of a command.
-#[derive(Clone, Copy)]
-pub enum Verb {
-    New,
-    Level,
-    Keeps,
-    FirstKept,
-    Kept,
-    Why,
-    Help,
-}
-
-// The command that begins with this word.
+// The command with this first word, and these arguments behind it.
 #[tactic(auto, using(crate::proofs::Texts::word_with_bytes))]
-fn verb_in(word: &[u8]) -> Option<Verb>
-    ensures { result ≡ verb_of word.now }
+fn with_arguments(word: &[u8], arguments: &[u8]) -> Result<Command, Fault>
+    ensures { result ≡ with_arguments word.now arguments.now }
 {
     match word {
-        b"new" => Some(Verb::New),
-        b"level" => Some(Verb::Level),
-        b"keeps" => Some(Verb::Keeps),
-        b"first-kept" => Some(Verb::FirstKept),
-        b"kept" => Some(Verb::Kept),
-        b"why" => Some(Verb::Why),
-        b"help" => Some(Verb::Help),
-        _ => None,
-    }
-}
-
-// The command with this first word.
-fn with_arguments(verb: Verb, arguments: &[u8]) -> Result<Command, Fault>
-    ensures { result ≡ with_arguments verb arguments.now }
-{
-    match verb {
-        Verb::New => new_setting(arguments).map(Command::New),
-        Verb::Level => level_setting(arguments).map(Command::New),
-        Verb::Keeps => moment_and_now(arguments).map(|(moment, at)| Command::Keeps { moment, at }),
-        Verb::FirstKept => {
-            moment_and_now(arguments).map(|(moment, at)| Command::FirstKept { moment, at })
-        }
-        Verb::Kept => only_now(arguments).map(|at| Command::Kept { at }),
-        Verb::Why => moment_and_now(arguments).map(|(moment, at)| Command::Why { moment, at }),
-        Verb::Help => nothing_more(arguments, Command::Help),
+        b"new" => new_setting(arguments).map(Command::New),
+        b"level" => level_setting(arguments).map(Command::New),
+        b"keeps" => moment_and_now(arguments).map(Command::Keeps),
+        b"first-kept" => moment_and_now(arguments).map(Command::FirstKept),
+        b"kept" => only_now(arguments).map(|at| Command::Kept { at }),
+        b"why" => moment_and_now(arguments).map(Command::Why),
+        b"help" => nothing_more(arguments, Command::Help),
+        _ => Err(Fault::UnknownCommand),
     }
 }
 
@@ -79,8 +50,7 @@ fn parse_words(line: &[u8]) -> Result<Command, Fault>
     if word.is_empty() {
         return Ok(Command::Nothing);
     }
-    let verb = verb_in(word).ok_or(Fault::UnknownCommand)?;
-    with_arguments(verb, arguments)
+    with_arguments(word, arguments)
 }
 
 fn is_comment(line: &[u8]) -> bool

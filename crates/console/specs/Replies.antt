@@ -1,5 +1,6 @@
 -- What the program replies to a command, in the state that the command finds.
-use Rattle.std.specs.Prelude.{◌≡◌, ℕ, ◌||◌, if◌then◌else◌, Some, None, Ok, Err, Option, Result, nat_lt}
+use Rattle.std.specs.Prelude.{◌≡◌, ℕ, ◌||◌, if◌then◌else◌, [], ◌∷◌, Some, None, Ok, Err, Option, Result, nat_lt}
+use Rattle.values.specs.Answers.{unless_refused}
 use Rattle.values.specs.Moments.{last_moment}
 use Rattle.values.specs.Refusals.{number_of}
 use Rattle.values.specs.declared.refusal.Refusal.{Refusal}
@@ -13,6 +14,7 @@ use Rattle.reports.specs.declared.reason.Grounds.{Grounds}
 use Rattle.console.specs.declared.session.Session.{Session}
 use Rattle.console.specs.declared.answer.Answer.{Answer}
 use Rattle.console.specs.declared.answer.Answer.TheVariants as answer
+use Rattle.commands.specs.declared.arguments.Question.{Question}
 use Rattle.commands.specs.declared.command.Command.{Command}
 use Rattle.commands.specs.declared.command.Command.TheVariants.{Nothing, New, Keeps, FirstKept, Kept, Why, Help}
 use Rattle.commands.specs.declared.fault.Fault.{Fault}
@@ -68,6 +70,11 @@ abbrev pub now_or : Option ℕ → ℕ → ℕ
 now_or None m = m
 now_or (Some n) m = n
 
+-- The moment that is asked about, and the one that counts as the present where the vault's own is `m`.
+abbrev pub moments_asked : Question → (m : ℕ) → Result (ℕ × ℕ) ℕ
+moments_asked q m =
+    unless_refused ((nat_lt last_moment q.moment, 24) ∷ (nat_lt last_moment (now_or q.at m), 24) ∷ []) (q.moment, now_or q.at m)
+
 -- A question about two moments, turned down where one of the numbers is no moment.
 abbrev pub at_moments : (t n : ℕ) → Reply → Reply
 at_moments t n reply = if nat_lt last_moment t || nat_lt last_moment n then refused 24 else reply
@@ -97,10 +104,10 @@ new_reply (Err n) = refused n
 abbrev pub reply_to : Retention → (m : ℕ) → Command → Reply
 reply_to r m Nothing = silence
 reply_to r m (New s) = new_reply (made_setting s)
-reply_to r m (Keeps t at) = keeps_reply r t (now_or at m)
-reply_to r m (FirstKept t at) = first_kept_reply r t (now_or at m)
+reply_to r m (Keeps q) = keeps_reply r q.moment (now_or q.at m)
+reply_to r m (FirstKept q) = first_kept_reply r q.moment (now_or q.at m)
 reply_to r m (Kept at) = kept_reply r (now_or at m)
-reply_to r m (Why t at) = why_reply r t (now_or at m)
+reply_to r m (Why q) = why_reply r q.moment (now_or q.at m)
 reply_to r m Help = help
 
 -- What a new vault leaves in place of the setting and the moment before: where it is turned down, both stay.
@@ -115,19 +122,19 @@ moment_made (Err n) m = m
 abbrev pub setting_after : Setting → Command → Setting
 setting_after old Nothing = old
 setting_after old (New s) = setting_made (made_setting s) old
-setting_after old (Keeps t at) = old
-setting_after old (FirstKept t at) = old
+setting_after old (Keeps q) = old
+setting_after old (FirstKept q) = old
 setting_after old (Kept at) = old
-setting_after old (Why t at) = old
+setting_after old (Why q) = old
 setting_after old Help = old
 
 abbrev pub moment_after : (m : ℕ) → Command → ℕ
 moment_after m Nothing = m
 moment_after m (New s) = moment_made (made_setting s) m
-moment_after m (Keeps t at) = m
-moment_after m (FirstKept t at) = m
+moment_after m (Keeps q) = m
+moment_after m (FirstKept q) = m
 moment_after m (Kept at) = m
-moment_after m (Why t at) = m
+moment_after m (Why q) = m
 moment_after m Help = m
 
 -- The same for a line, which is a command, or is answered by what is wrong with it and alters nothing.

@@ -4,9 +4,10 @@ ghost use Rattle.std.specs.Str.{is_utf8};
 ghost use Rattle.values.specs.Answers.{answer};
 ghost use Rattle.values.specs.Moments.{moment_at};
 ghost use Rattle.commands.specs.Commands.{command_in};
-ghost use Rattle.console.specs.Replies.{Answered, reply_of, result_reply, made_setting, setting_of, setting_made, moment_made, now_or, keeps_reply, first_kept_reply, kept_reply, why_reply, new_reply};
+ghost use Rattle.console.specs.Replies.{Answered, reply_of, result_reply, made_setting, setting_of, setting_made, moment_made, now_or, moments_asked, keeps_reply, first_kept_reply, kept_reply, why_reply, new_reply};
 
 use crate::answer::Answer;
+use commands::arguments::Question;
 use commands::command::Command;
 use commands::setting::Setting;
 use pictures::picture::Picture;
@@ -55,20 +56,28 @@ impl Session {
         at.map_or(Ok(self.present), Moment::try_from)
     }
 
-    fn keeps(&self, moment: u32, at: Option<u32>) -> Result<Answer, Refusal>
-        ensures { result_reply result ≡ keeps_reply self.now.retention moment (now_or at self.now.present.value) }
+    // The moment asked about, and the one that counts as the present.
+    fn moments(&self, question: Question) -> Result<(Moment, Moment), Refusal>
+        ensures { answer (λ p. (p.0.value, p.1.value)) result ≡ moments_asked question self.now.present.value }
     {
-        let t = Moment::try_from(moment)?;
-        let present = self.present_or(at)?;
+        Ok((
+            Moment::try_from(question.moment)?,
+            self.present_or(question.at)?,
+        ))
+    }
+
+    fn keeps(&self, question: Question) -> Result<Answer, Refusal>
+        ensures { result_reply result ≡ keeps_reply self.now.retention question.moment (now_or question.at self.now.present.value) }
+    {
+        let (t, present) = self.moments(question)?;
         let kept = self.retention.keeps(t, present);
         Ok(if kept { Answer::Yes } else { Answer::No })
     }
 
-    fn first_kept(&self, moment: u32, at: Option<u32>) -> Result<Answer, Refusal>
-        ensures { result_reply result ≡ first_kept_reply self.now.retention moment (now_or at self.now.present.value) }
+    fn first_kept(&self, question: Question) -> Result<Answer, Refusal>
+        ensures { result_reply result ≡ first_kept_reply self.now.retention question.moment (now_or question.at self.now.present.value) }
     {
-        let t = Moment::try_from(moment)?;
-        let present = self.present_or(at)?;
+        let (t, present) = self.moments(question)?;
         let first = self.retention.first_kept(t, present);
         Ok(first.map_or(Answer::Absent, Answer::At))
     }
@@ -80,11 +89,10 @@ impl Session {
         Ok(Answer::Picture(Picture::new(self.retention, present)))
     }
 
-    fn why(&self, moment: u32, at: Option<u32>) -> Result<Answer, Refusal>
-        ensures { result_reply result ≡ why_reply self.now.retention moment (now_or at self.now.present.value) }
+    fn why(&self, question: Question) -> Result<Answer, Refusal>
+        ensures { result_reply result ≡ why_reply self.now.retention question.moment (now_or question.at self.now.present.value) }
     {
-        let t = Moment::try_from(moment)?;
-        let present = self.present_or(at)?;
+        let (t, present) = self.moments(question)?;
         Ok(Answer::Reason(Reason::new(self.retention, t, present)))
     }
 
@@ -105,10 +113,10 @@ impl Session {
         match command {
             Command::Nothing => Ok(Answer::Silence),
             Command::New(setting) => self.renew(setting),
-            Command::Keeps { moment, at } => self.keeps(moment, at),
-            Command::FirstKept { moment, at } => self.first_kept(moment, at),
+            Command::Keeps(question) => self.keeps(question),
+            Command::FirstKept(question) => self.first_kept(question),
             Command::Kept { at } => self.kept(at),
-            Command::Why { moment, at } => self.why(moment, at),
+            Command::Why(question) => self.why(question),
             Command::Help => Ok(Answer::Help),
         }
     }
