@@ -33,12 +33,7 @@ fn kept(heap: Global, policy: Retention, present: Moment) -> Result<Vec<u32>, Al
 }
 
 // Whether exactly these moments are kept.
-fn keeps(
-    heap: Global,
-    policy: Retention,
-    present: u32,
-    moments: &[u32],
-) -> Result<bool, Fail> {
+fn keeps(heap: Global, policy: Retention, present: u32, moments: &[u32]) -> Result<bool, Fail> {
     let present = Moment::try_from(present)?;
     Ok(kept(heap, policy, present)?.as_slice() == moments)
 }

@@ -17,8 +17,8 @@ fn walked(policy: Retention, from: u32, present: u32) -> Result<Option<u32>, Ref
 
 // Whether both searches agree from every moment up to one above `present`.
 fn agree(policy: Retention, present: u32) -> bool {
-    (0..=present.saturating_add(1))
-        .all(|from| first(policy, from, present) == walked(policy, from, present))
+    (0..=present.saturating_add(1)).all(|from| first(policy, from, present)
+        == walked(policy, from, present))
 }
 
 #[test]

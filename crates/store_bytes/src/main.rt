@@ -7,8 +7,7 @@ mod row;
 use packed_log::log::PackedLog;
 use row::{ROW_LENGTH, Row};
 use slot_store::slots::SlotStore;
-use std::fmt;
-use std::io;
+use std::{fmt, io};
 use stores::store::Store;
 
 // Room for three entries, and two bytes that no store touches.

@@ -106,7 +106,12 @@ impl Bytes for PackedLog<'_> {
 fn holds_block(buffer: &[u8], number: u32, length: usize) -> bool {
     buffer.iter().enumerate().all(|(place, byte)| {
         let block = place < length;
-        *byte == if block { block_byte(number, place) } else { UNREAD }
+        *byte
+            == if block {
+                block_byte(number, place)
+            } else {
+                UNREAD
+            }
     })
 }
 
