@@ -229,6 +229,9 @@ impl<'a> Script<'a> {
         Ok(())
     }
 
+    // A pair of calls for each store: a generic one would have to take the type of a store over bytes
+    // that live only inside it.
+
     /// Runs on a slot store over these bytes.
     pub fn on_slots_over<R: Abort + AllocGlobal>(
         self,

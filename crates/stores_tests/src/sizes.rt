@@ -1,7 +1,8 @@
 //! Memory of every kind of length, on both stores.
-use crate::memory::{Memory, entry};
+use crate::memory::{Memory, Placed, entry};
 use crate::script::{Script, Step, append, clear, drop_entry, read, read_absent, read_short};
 use std::alloc::{AllocError, Global};
+use std::iter::once;
 use std::process::Abort;
 use std::test::Fail;
 use values::refusal::Refusal;
@@ -129,11 +130,8 @@ fn filling(heap: Global) -> Result<Vec<Step>, AllocError> {
 #[test]
 fn the_most_slots(rt: HostRuntime) -> Result<(), Fail> {
     let steps = filling(rt.alloc())?;
-    let mut entries = Vec::new(rt.alloc());
-    entries.push(entry(0, 4097, 33))?;
-    for slot in 1..4096u32 {
-        entries.push(entry(slot as usize * 69, slot + 1, varied(slot + 1)))?;
-    }
+    let others = (1..4096u32).map(|slot| entry(slot as usize * 69, slot + 1, varied(slot + 1)));
+    let entries: Vec<Placed> = once(entry(0, 4097, 33)).chain(others).collect(rt.alloc())?;
     Script::new(LARGE, steps.as_slice(), entries.as_slice()).on_slots(&rt)
 }
 

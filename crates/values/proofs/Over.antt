@@ -29,19 +29,6 @@ over_next at next ys zs xs e h =
     ∙ drop-drop (length zs) (at + length ys) xs ∙ ap (λ (n : ℕ). drop n xs) (simp length-append (omega arith)) in
     rw (t, d) (simp append_assoc)
 
--- A second write of the same length at the same place.
-pub over_again : (at : ℕ) (ys zs xs : List ℕ) → length ys ≡ length zs → at ≤ length xs → over at ys (over at zs xs) ≡ over at ys xs
-over_again at ys zs xs e h =
-    let l : length (take at xs) ≡ at = length-take-le at xs h in
-    let g : take at xs ++ zs ++ drop (at + length zs) xs ≡ over at zs xs = append_assoc (take at xs) zs (drop (at + length zs) xs) in
-    let t : take at (over at zs xs) ≡ take at xs = take_at (take at xs) (zs ++ drop (at + length zs) xs) at l in
-    let d : drop (at + length ys) (over at zs xs) ≡ drop (at + length ys) xs =
-    ap (λ (k : ℕ). drop (at + k) (over at zs xs)) e
-    ∙ ap (drop (at + length zs)) (sym g)
-    ∙ drop_at (take at xs ++ zs) (drop (at + length zs) xs) (at + length zs) (length-append (take at xs) zs ∙ ap (λ (k : ℕ). k + length zs) l)
-    ∙ ap (λ (k : ℕ). drop (at + k) xs) (sym e) in
-    rw (t, d)
-
 -- A write behind a list leaves that list alone.
 pub over_behind : (at place : ℕ) (front ys xs : List ℕ) → length front + at ≡ place → over place ys (front ++ xs) ≡ front ++ over at ys xs
 over_behind at place front ys xs e = rw (← e, take-append-add, add_assoc, drop-append-add, append_assoc)
