@@ -132,6 +132,7 @@ impl Session {
     pub fn execute(&mut self, line: &[u8]) -> Answer
         ensures { Answered self.old self.new (command_in (is_utf8 line.now) line.now) (reply_of result) }
     {
+        // A match: in a combinator one closure would have to borrow the session.
         match Command::read(line) {
             Ok(command) => self.run(command),
             Err(fault) => Answer::Wrong(fault),

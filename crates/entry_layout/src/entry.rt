@@ -3,7 +3,6 @@ ghost use Rattle.std.specs.Prelude.{◌≡◌, ◌+◌, ◌≤◌, length, drop,
 ghost use Rattle.std.specs.Option.{option_map};
 ghost use Rattle.values.specs.Answers.{Settles};
 ghost use Rattle.stores.specs.Calls.{copying};
-ghost use Rattle.stores.specs.Contents.{entry};
 ghost use Rattle.entry_layout.specs.Layout.{block_at, entry_in, with_entry};
 ghost use Rattle.entry_layout.specs.Views.{viewed};
 
@@ -36,6 +35,24 @@ impl<'a> EntryRef<'a> {
         })
     }
 
+    /// Writes the entry over bytes from a place on. Where it does not fit, nothing is written.
+    pub fn write(&self, bytes: &mut [u8], at: usize)
+        ensures { bytes.new ≡ with_entry at (viewed self.now) bytes.old }
+    {
+        let length = self.block.len();
+        if length > MAX_BLOCK_LENGTH
+            || at > bytes.len()
+            || bytes.len() - at < HEADER_LENGTH + length
+        {
+            return;
+        }
+        let start = at + HEADER_LENGTH;
+        bytes[at..at + NUMBER_LENGTH].copy_from_slice(&self.number.to_be_bytes());
+        bytes[at + NUMBER_LENGTH] = length as u8;
+        let behind = &mut bytes[start..start + length];
+        behind.copy_from_slice(self.block);
+    }
+
     /// How many bytes the entry takes, with its header.
     pub fn size(&self) -> usize
         ensures { result ≡ 5 + length self.now.block.now }
@@ -43,6 +60,8 @@ impl<'a> EntryRef<'a> {
         HEADER_LENGTH + self.block.len()
     }
 }
+
+// Bytes and a place stay two parameters here: each call borrows the bytes in another way.
 
 /// The entry that begins at a place, or none where no header with 1 to 64 bytes behind it stands.
 pub fn entry_at(bytes: &[u8], at: usize) -> Option<EntryRef<'_>>
@@ -52,23 +71,8 @@ pub fn entry_at(bytes: &[u8], at: usize) -> Option<EntryRef<'_>>
     EntryRef::read(bytes.get(at..)?)
 }
 
-/// Writes an entry from a place on. Where it does not fit, nothing is written.
-pub fn write_entry(bytes: &mut [u8], at: usize, number: u32, block: &[u8])
-    ensures { bytes.new ≡ with_entry at (entry number block.now) bytes.old }
-{
-    let length = block.len();
-    if length > MAX_BLOCK_LENGTH || at > bytes.len() || bytes.len() - at < HEADER_LENGTH + length {
-        return;
-    }
-    let start = at + HEADER_LENGTH;
-    bytes[at..at + NUMBER_LENGTH].copy_from_slice(&number.to_be_bytes());
-    bytes[at + NUMBER_LENGTH] = length as u8;
-    let behind = &mut bytes[start..start + length];
-    behind.copy_from_slice(block);
-}
-
 /// Writes the block of the entry at a place, if one stands there, to the front of the buffer and
-/// answers its length.
+/// answers its length. The buffer is the caller's, as all memory of a vault is.
 pub fn read_entry(bytes: &[u8], at: Option<usize>, buffer: &mut [u8]) -> Result<usize, Refusal>
     ensures { Settles result (λ n. (n, buffer.new)) (copying (block_at at bytes.now) buffer.old) buffer.old buffer.new }
 {

@@ -19,7 +19,8 @@ pub struct Name {
 }
 
 impl Name {
-    /// Writes the name's bytes to the front of the buffer and answers how many there are.
+    /// Writes the name's bytes to the front of the buffer and answers how many there are. The buffer
+    /// is the caller's, as all memory of a vault is.
     pub fn unpack(self, buffer: &mut [u8]) -> Result<usize, Refusal>
         ensures answers { answer (λ n. n) result ≡ unpacking (spelled self.packed.high self.packed.low) buffer.old }
         ensures writes { buffer.new ≡ (if is_ok result then over_front (spelled self.packed.high self.packed.low) buffer.old else buffer.old) }

@@ -12,7 +12,7 @@ ghost use Rattle.packed_log.specs.Walk.{placed};
 use crate::moves::take_out;
 use crate::walk::Entries;
 use entry_layout::capacity::{HEADER_LENGTH, MAX_ENTRY_LENGTH, capacity_of};
-use entry_layout::entry::{EntryRef, read_entry, write_entry};
+use entry_layout::entry::{EntryRef, read_entry};
 use entry_layout::parts::fill_zero;
 use std::marker::Model;
 use stores::admission::Standing;
@@ -44,6 +44,8 @@ impl<'a> PackedLog<'a> {
         ensures lawful { Lawful (contents_of result) }
         ensures bytes { result.bytes ≡ replicate (room bytes.old) 0 ++ drop (room bytes.old) bytes.old }
     {
+        // As in the slot store, here and in `clear` and `standing`: each store sets and reads fields of its
+        // own, and what they share is `fill_zero` and `Standing`.
         let end = capacity_of(bytes.len()) * MAX_ENTRY_LENGTH;
         fill_zero(bytes, 0, end);
         PackedLog {
@@ -98,7 +100,7 @@ impl Store for PackedLog<'_> {
         ensures same { OnErr result (self.new ≡ self.old) }
     {
         self.standing().admit(number, block)?;
-        write_entry(self.bytes, self.used, number, block);
+        EntryRef { number, block }.write(self.bytes, self.used);
         self.used += HEADER_LENGTH + block.len();
         self.held += 1;
         self.last = number;

@@ -25,6 +25,8 @@ pub struct Halving {
 }
 
 impl Halving {
+    // As in `Moment`: no shared function would make it shorter.
+
     /// The policy that keeps odd moments until they are `reach` moments old.
     pub fn new(reach: u32) -> Result<Halving, Refusal>
         ensures { answer (λ h. h.reach) result ≡ halving_setting reach }

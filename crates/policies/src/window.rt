@@ -17,6 +17,8 @@ pub struct Window {
 }
 
 impl Window {
+    // As in `Moment`: no shared function would make it shorter.
+
     /// The window that keeps `length` moments before the present one.
     pub fn new(length: u32) -> Result<Window, Refusal>
         ensures { answer (λ w. w.length) result ≡ window_setting length }

@@ -10,7 +10,7 @@ ghost use Rattle.slot_store.specs.Slots.{slots_of, slotted, tail_of, zeroed_slot
 
 use crate::search::slot_from;
 use entry_layout::capacity::{MAX_ENTRY_LENGTH, capacity_of};
-use entry_layout::entry::{read_entry, write_entry};
+use entry_layout::entry::{EntryRef, read_entry};
 use entry_layout::parts::fill_zero;
 use std::marker::Model;
 use stores::admission::Standing;
@@ -47,6 +47,8 @@ impl<'a> SlotStore<'a> {
         ensures bytes { result.bytes ≡ zeroed_slots bytes.old }
         ensures next { result.next ≡ 0 }
     {
+        // As in the packed log, here and in `clear` and `standing`: each store sets and reads fields of its
+        // own, and what they share is `fill_zero` and `Standing`.
         let end = capacity_of(bytes.len()) * MAX_ENTRY_LENGTH;
         fill_zero(bytes, 0, end);
         SlotStore {
@@ -135,7 +137,7 @@ impl Store for SlotStore<'_> {
     {
         self.standing().admit(number, block)?;
         let slot = self.free_slot().ok_or(Refusal::StoreFull)?;
-        write_entry(self.bytes, slot * MAX_ENTRY_LENGTH, number, block);
+        EntryRef { number, block }.write(self.bytes, slot * MAX_ENTRY_LENGTH);
         self.held += 1;
         self.last = number;
         self.next = slot + 1;

@@ -29,7 +29,8 @@ pub trait Store {
         ensures appends { Appends number block.now (contents self.old) (contents self.new) result }
         ensures lawful { Lawful (contents self.new) };
 
-    /// Writes the entry's block to the front of the buffer and answers its length.
+    /// Writes the entry's block to the front of the buffer and answers its length. The buffer is the
+    /// caller's, as all memory of a vault is.
     fn read(&self, number: u32, buffer: &mut [u8]) -> Result<usize, Refusal>
         ensures { Reads number (contents self.now) buffer.old buffer.new result };
 

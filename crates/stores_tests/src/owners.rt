@@ -22,6 +22,8 @@ fn fill_and_read<S: Store + Drop>(rt: &impl Abort, store: S) -> Result<(), Fail>
     Ok(())
 }
 
+// A test for each store, so that a failure names the store.
+
 #[test]
 fn an_owner_of_slots(rt: HostRuntime) -> Result<(), Fail> {
     let mut bytes = [0u8; 138];

@@ -26,6 +26,7 @@ impl BlockNumber {
     }
 }
 
+// As in `Moment`: no shared function would make it shorter.
 impl TryFrom<u32> for BlockNumber {
     type Error = Refusal;
 

@@ -39,6 +39,9 @@ impl Moment {
     }
 }
 
+// Four numbers are checked against a limit, here and in `BlockNumber`, `Window` and `Halving`: with a
+// limit, a refusal and a type of its own each, a function for all of them would make none shorter.
+
 /// The moment with this number.
 impl TryFrom<u32> for Moment {
     type Error = Refusal;

@@ -13,7 +13,7 @@ invariant_of-self c =
     let admits = rw (c.standing.ensures.held, c.standing.ensures.last, c.standing.ensures.capacity, ← c.self.view_is) at c.in_ok-admit.ensures in
     let free = rw (← c.self.view_is) at (sym c.free_slot.ensures.place ∙ c.in_ok-slot.ensures.ok_part) in
     let e = entry c.args.number c.args.block.now in
-    let a = append_step c.self.inside c.write_entry.new.bytes c.in_ok-slot.slot e c.self.invariant admits (omega arith) free c.write_entry.ensures in
+    let a = append_step c.self.inside c.write.new.bytes c.in_ok-slot.slot e c.self.invariant admits (omega arith) free c.write.ensures in
     record { laid = a.laid; counted = a.counted; lawful = a.lawful }
 
 pub returns : goal.returns
@@ -21,7 +21,7 @@ returns c =
     let admits = rw (c.standing.ensures.held, c.standing.ensures.last, c.standing.ensures.capacity, ← c.self.view_is) at c.in_ok-admit.ensures in
     let free = rw (← c.self.view_is) at (sym c.free_slot.ensures.place ∙ c.in_ok-slot.ensures.ok_part) in
     let e = entry c.args.number c.args.block.now in
-    let a = append_step c.self.inside c.write_entry.new.bytes c.in_ok-slot.slot e c.self.invariant admits (omega arith) free c.write_entry.ensures in
+    let a = append_step c.self.inside c.write.new.bytes c.in_ok-slot.slot e c.self.invariant admits (omega arith) free c.write.ensures in
     rw (← c.self.view_is) (record {
       appends = record { answered = a.accepted; unaltered = tt };
       lawful = a.lawful;
