@@ -6,7 +6,7 @@ ghost use Rattle.names.specs.Packing.{high_of, low_of, pair_bytes, is_packed};
 use crate::name_rule::{MAX_NAME_LENGTH, is_name};
 use values::bytes::place_of;
 
-/// How many bytes each of the two numbers holds.
+// How many bytes each of the two numbers holds.
 const HALF: usize = 8;
 
 /// Sixteen bytes as two numbers, the first byte most significant: a name, and zeros behind its last
@@ -40,7 +40,7 @@ fn pack_back(bytes: &[u8]) -> u64
 }
 
 impl PackedName {
-    // Packs the first sixteen bytes.
+    /// Packs the first sixteen bytes, with zeros for missing ones.
     pub fn pack(bytes: &[u8]) -> PackedName
         ensures { result ≡ record { high = high_of bytes.now; low = low_of bytes.now } }
     {
@@ -50,7 +50,7 @@ impl PackedName {
         }
     }
 
-    // The sixteen bytes.
+    /// The sixteen bytes.
     pub fn bytes(self) -> [u8; MAX_NAME_LENGTH]
         ensures { result ≡ pair_bytes self.high self.low }
     {
@@ -60,7 +60,7 @@ impl PackedName {
         bytes
     }
 
-    // Whether the two numbers are what a name packs to.
+    /// Whether the two numbers are what a name packs to.
     pub fn is_name(self) -> bool
         ensures { result ≡ is_packed self.high self.low }
     {
