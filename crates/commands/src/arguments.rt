@@ -22,7 +22,7 @@ fn optional_number(word: &[u8]) -> Result<Option<u32>, Fault>
     number(word).map(Some)
 }
 
-/// MOMENT [NOW]
+/// Reads `MOMENT [NOW]`.
 pub fn moment_and_now(arguments: &[u8]) -> Result<Question, Fault>
     ensures { result ≡ moment_and_now arguments.now }
 {
@@ -38,7 +38,7 @@ pub fn moment_and_now(arguments: &[u8]) -> Result<Question, Fault>
     })
 }
 
-/// [NOW]
+/// Reads `[NOW]`.
 pub fn only_now(arguments: &[u8]) -> Result<Option<u32>, Fault>
     ensures { result ≡ only_now arguments.now }
 {
@@ -47,7 +47,7 @@ pub fn only_now(arguments: &[u8]) -> Result<Option<u32>, Fault>
     optional_number(at)
 }
 
-/// N
+/// Reads `N`.
 pub fn only_number(arguments: &[u8]) -> Result<u32, Fault>
     ensures { result ≡ only_number arguments.now }
 {

@@ -48,7 +48,7 @@ fn keep_setting(word: &[u8]) -> Result<Setting, Fault>
     policy_setting(value)
 }
 
-/// [keep=POLICY]
+/// Reads `[keep=POLICY]`.
 pub fn new_setting(arguments: &[u8]) -> Result<Setting, Fault>
     ensures { result ≡ new_setting arguments.now }
 {
@@ -60,7 +60,7 @@ pub fn new_setting(arguments: &[u8]) -> Result<Setting, Fault>
     keep_setting(word)
 }
 
-/// solo N, studio N or archive
+/// Reads `solo N`, `studio N` or `archive`.
 #[tactic(auto, using(crate::proofs::Texts::word_with_bytes))]
 pub fn level_setting(arguments: &[u8]) -> Result<Setting, Fault>
     ensures { result ≡ level_setting arguments.now }

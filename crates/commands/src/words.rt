@@ -61,6 +61,7 @@ pub fn number(word: &[u8]) -> Result<u32, Fault>
         return Err(Fault::NotANumber);
     }
     // Digits are text, so this gives no fault of its own.
+    // By `or`: its contract is an equation, and that of `map_err` speaks of the closure's calls.
     let digits = from_utf8(word).or(Err(Fault::NotANumber))?;
     digits.parse().or(Err(Fault::NumberTooLarge))
 }

@@ -1,5 +1,6 @@
 //! The help text.
 
+/// What the program answers to `help`.
 pub const HELP: &str = "\
 vaultctl: which moments of a project's history does a level keep, and why?
 One command to a line. Empty lines and lines that begin with # are passed over.

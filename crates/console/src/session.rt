@@ -19,7 +19,7 @@ use reports::reason::Reason;
 use values::moment::Moment;
 use values::refusal::Refusal;
 
-// The policy with this setting.
+// The policy with this setting. No `TryFrom`, since both types are other crates'.
 fn retention_with(setting: Setting) -> Result<Retention, Refusal>
     ensures { answer setting_of result ≡ made_setting setting }
 {

@@ -12,6 +12,7 @@ pub struct Dialogue<'a, R> {
 }
 
 impl<'a, R: Abort + AllocGlobal> Dialogue<'a, R> {
+    /// A dialogue with a new session.
     pub fn new(rt: &'a R) -> Dialogue<'a, R> {
         Dialogue {
             rt,

@@ -33,10 +33,7 @@ fn pack_front(bytes: &[u8]) -> u64
 fn pack_back(bytes: &[u8]) -> u64
     ensures { result ≡ low_of bytes.now }
 {
-    if bytes.len() <= HALF {
-        return 0;
-    }
-    pack_front(&bytes[HALF..])
+    bytes.get(HALF..).map_or(0, pack_front)
 }
 
 impl PackedName {

@@ -37,6 +37,7 @@ impl Halving {
         Ok(Halving { reach })
     }
 
+    /// How old an odd moment may be and still be kept.
     pub fn reach(self) -> u32
         ensures { result ≡ self.reach }
     {

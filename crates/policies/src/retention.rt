@@ -10,8 +10,8 @@ use std::fmt;
 use values::moment::Moment;
 
 /// A policy of any kind.
-// The kinds are closed and nothing lies on a heap, so this is an enum. A `&dyn Policy` in its methods
-// would be no shorter: each would keep its three arms.
+// The kinds are closed and nothing lies on a heap, so this is an enum. A `&dyn Policy` would not
+// shorten its methods: a function may not hand one out, so each would keep its three arms.
 #[derive(Clone, Copy, PartialEq, Eq, Debug)]
 pub enum Retention {
     All,

@@ -29,6 +29,7 @@ impl Window {
         Ok(Window { length })
     }
 
+    /// How many moments are kept before the present one.
     pub fn length(self) -> u32
         ensures { result ≡ self.length }
     {

@@ -8,10 +8,12 @@ use std::test::Fail;
 use values::moment::Moment;
 use values::refusal::Refusal;
 
+/// The policy that keeps a window.
 pub fn window(length: u32) -> Result<Retention, Refusal> {
     Window::new(length).map(Retention::Window)
 }
 
+/// The policy that halves.
 pub fn halving(reach: u32) -> Result<Retention, Refusal> {
     Halving::new(reach).map(Retention::Halving)
 }

@@ -15,10 +15,15 @@ fn walked(policy: Retention, from: u32, present: u32) -> Result<Option<u32>, Ref
     Ok(first.map(Moment::number))
 }
 
+// Whether both searches agree on a moment, and neither number is beyond the limit.
+fn agree_from(policy: Retention, from: u32, present: u32) -> bool {
+    let found = first(policy, from, present);
+    found.is_ok() && found == walked(policy, from, present)
+}
+
 // Whether both searches agree from every moment up to one above `present`.
 fn agree(policy: Retention, present: u32) -> bool {
-    (0..=present.saturating_add(1)).all(|from| first(policy, from, present)
-        == walked(policy, from, present))
+    (0..=present.saturating_add(1)).all(|from| agree_from(policy, from, present))
 }
 
 #[test]

@@ -14,7 +14,7 @@ use stores::store::Store;
 const MEMORY: usize = 3 * 69 + 2;
 
 // The rows of the memory that are not all zero, each behind the place of its first byte.
-fn show_memory(rt: &HostRuntime, memory: &[u8]) -> io::Result<()> {
+fn show_memory(rt: &impl Print, memory: &[u8]) -> io::Result<()> {
     for (turn, bytes) in memory.chunks(ROW_LENGTH).enumerate() {
         let row = Row { bytes };
         let place = turn.saturating_mul(ROW_LENGTH);
@@ -59,7 +59,7 @@ impl Shown for PackedLog<'_> {
 }
 
 // Makes each call, and shows what was asked and answered and the memory afterwards.
-fn show_calls<S: Shown>(rt: &HostRuntime, store: &mut S, calls: &[Call<'_>]) -> io::Result<()> {
+fn show_calls<S: Shown>(rt: &impl Print, store: &mut S, calls: &[Call<'_>]) -> io::Result<()> {
     show_memory(rt, store.memory())?;
     for call in calls {
         let answer = match *call {
@@ -75,7 +75,7 @@ fn show_calls<S: Shown>(rt: &HostRuntime, store: &mut S, calls: &[Call<'_>]) -> 
     Ok(())
 }
 
-fn show_slots(rt: &HostRuntime) -> io::Result<()> {
+fn show_slots(rt: &impl Print) -> io::Result<()> {
     println!(rt; "a new slot store")?;
     let calls = [
         Call::Append(1, b"Hei"),
@@ -88,7 +88,7 @@ fn show_slots(rt: &HostRuntime) -> io::Result<()> {
     show_calls(rt, &mut SlotStore::new(&mut [0xEEu8; MEMORY]), &calls)
 }
 
-fn show_log(rt: &HostRuntime) -> io::Result<()> {
+fn show_log(rt: &impl Print) -> io::Result<()> {
     println!(rt; "a new packed log")?;
     let calls = [
         Call::Append(1, b"Hei"),

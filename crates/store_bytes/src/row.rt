@@ -19,8 +19,7 @@ impl Row<'_> {
 
 impl fmt::Display for Row<'_> {
     fn fmt<W: fmt::Write>(&self, f: &mut fmt::Formatter<W>) -> fmt::Result {
-        for byte in self.bytes {
-            let byte = *byte;
+        for &byte in self.bytes {
             write!(f, " {byte:02x}")?;
         }
         Ok(())

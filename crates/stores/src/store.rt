@@ -8,7 +8,8 @@ use values::refusal::Refusal;
 
 /// Keeps blocks of 1 to 64 bytes, each under a number of its own.
 ///
-/// Every value of a store is sound, as its type says, so each clause below holds of every call.
+/// Every value of a store is sound, as its type says, so each clause below holds of every call. A
+/// type's invariant is not seen from outside: so the clauses `lawful` say what it tells of contents.
 pub trait Store {
     /// What the store holds: its entries by rising number, the last number accepted, and how many
     /// entries it has room for.

@@ -73,11 +73,11 @@ impl Memory {
     pub fn with(self, heap: Global, entries: &[Placed]) -> Result<Vec<u8>, AllocError> {
         let mut bytes = Vec::new(heap);
         for entry in entries {
-            bytes.resize(entry.at, 0)?;
+            bytes.resize(entry.at.max(bytes.len()), 0)?;
             lay(heap, &mut bytes, *entry)?;
         }
-        bytes.resize(self.room, 0)?;
-        bytes.resize(self.length, FILLER)?;
+        bytes.resize(self.room.max(bytes.len()), 0)?;
+        bytes.resize(self.length.max(bytes.len()), FILLER)?;
         Ok(bytes)
     }
 }

@@ -6,6 +6,7 @@ ghost use Rattle.std.specs.Prelude.{◌≡◌, ◌+◌, ◌<◌, length};
 ghost use Rattle.values.specs.Answers.{answer};
 ghost use Rattle.stores.specs.Calls.{Reads, appending};
 ghost use Rattle.stores.specs.Contents.{emptied};
+ghost use Rattle.stores.specs.Laws.{Lawful};
 
 use stores::store::Store;
 use values::refusal::Refusal;
@@ -24,6 +25,7 @@ impl<S: Store> Owner<S> {
     /// Takes over a store, whatever it held, and clears it.
     pub fn new(mut store: S) -> Owner<S>
         ensures contents { S.Store.contents result.store ≡ emptied (S.Store.contents store).capacity }
+        ensures lawful { Lawful (S.Store.contents result.store) }
         ensures next { result.next ≡ 1 }
     {
         store.clear();
@@ -32,6 +34,7 @@ impl<S: Store> Owner<S> {
 
     /// Appends a block under the next number, and answers the number.
     pub fn add(&mut self, block: &[u8]) -> Result<u32, Refusal>
+        ensures lawful { Lawful (S.Store.contents self.old.store) → Lawful (S.Store.contents self.new.store) }
         ensures appends { self.old.next < 1000 → answer (λ _. S.Store.contents self.new.store) result ≡ appending self.old.next block.now (S.Store.contents self.old.store) }
     {
         let number = self.next;

@@ -38,8 +38,8 @@ impl Step {
     /// The same call, which is to be refused.
     pub fn refused(self, refusal: Refusal) -> Step {
         Step {
-            call: self.call,
             refusal: Some(refusal),
+            ..self
         }
     }
 }
@@ -105,13 +105,12 @@ impl Bytes for PackedLog<'_> {
 // Whether a buffer holds the block of an entry at its front and is untouched behind it.
 fn holds_block(buffer: &[u8], number: u32, length: usize) -> bool {
     buffer.iter().enumerate().all(|(place, byte)| {
-        let block = place < length;
-        *byte
-            == if block {
-                block_byte(number, place)
-            } else {
-                UNREAD
-            }
+        let expected = if place < length {
+            block_byte(number, place)
+        } else {
+            UNREAD
+        };
+        *byte == expected
     })
 }
 

@@ -19,6 +19,7 @@ pub struct BlockNumber {
 }
 
 impl BlockNumber {
+    /// The block's number.
     pub fn number(self) -> u8
         ensures { result ≡ self.value }
     {

@@ -10,6 +10,7 @@ use crate::refusal::Refusal;
 pub const LAST: u32 = 1_048_575;
 
 /// A point of a project's history, from 0 to [`LAST`].
+// A ghost field and no model: proofs of other crates read the limit off any moment.
 #[derive(Clone, Copy, PartialEq, Eq, PartialOrd, Ord, Debug)]
 pub struct Moment {
     value: u32,
@@ -20,6 +21,7 @@ impl Moment {
     /// The moment at which every vault begins.
     pub const ZERO: Moment = Moment { value: 0 };
 
+    /// The moment's number.
     pub fn number(self) -> u32
         ensures { result ≡ self.value }
     {
@@ -30,12 +32,7 @@ impl Moment {
     pub fn next(self) -> Option<Moment>
         ensures { option_map (λ m. m.value) result ≡ moment_after self.value }
     {
-        if self.value == LAST {
-            return None;
-        }
-        Some(Moment {
-            value: self.value + 1,
-        })
+        Moment::try_from(self.value + 1).ok()
     }
 }
 

@@ -6,6 +6,7 @@ use thiserror::Error;
 
 /// The reasons for turning a call down, by the numbers under which callers know them. A refusal
 /// shows its number and its reason, as `24 number beyond its limit`.
+// The number stands in the text too, since a derive's text is fixed. Tests hold the two together.
 #[derive(Clone, Copy, PartialEq, Eq, Debug, Error)]
 pub enum Refusal {
     #[error("1 not a valid name")]

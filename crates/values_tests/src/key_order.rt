@@ -24,6 +24,7 @@ fn name_keys(rt: HostRuntime) -> Result<(), Fail> {
     assert_eq!(rt; key(1, b"a")?.cmp(&key(1, b"a")?), Ordering::Equal);
     let held = key(7, b"a.srt")?;
     assert_eq!(rt; held.name(), Name::try_from(b"a.srt".as_slice()));
+    assert_eq!(rt; key(7, b"a/b").err(), Some(Refusal::InvalidName));
     let nameless = NameKey {
         directory: 7,
         name: PackedName { high: 0, low: 0 },

@@ -1,0 +1,2 @@
+pub mod EqualNameKeys
+pub mod PartsOrder
