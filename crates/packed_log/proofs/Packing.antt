@@ -1,39 +1,27 @@
 -- Entries packed into bytes: what is read back, and what an entry more or less makes of the bytes.
-use Rattle.std.proofs.Common.{◌≡◌, ℕ, suc, ◌+◌, ◌-◌, ◌*◌, ◌^◌, ◌<◌, ◌≤◌, eqb, List, [], ◌∷◌, ◌++◌, length, take, drop, replicate, Some, None, Option, sym, refl, ap, ◌∙◌, subst, inl, inr, append_assoc, add-zero, zero-add, arith, length-append}
+use Rattle.std.proofs.Common.{◌≡◌, ℕ, suc, ◌+◌, ◌-◌, ◌*◌, ◌≤◌, eqb, List, [], ◌∷◌, ◌++◌, length, take, drop, replicate, Some, None, Option, sym, refl, ap, ◌∙◌, subst, inl, inr, append_assoc, add-zero, zero-add, arith, length-append}
 use Rattle.std.specs.Option.{option_map}
-use Rattle.std.specs.List.{flat_map, AllByRecursion}
+use Rattle.std.specs.List.{flat_map, All}
 use Rattle.std.proofs.lemmas.List.{take_at, drop_at, drop-append-le, drop-replicate, length-replicate, replicate-append-replicate, flat_map_more}
+use Rattle.std.proofs.Math.Seq.{get_or-append_seam}
+use Rattle.std.proofs.lemmas.List.Elements.{All-head, All-tail}
 use Rattle.std.proofs.lemmas.Grind.{flat_map-append}
 use Rattle.std.proofs.lemmas.Bool.{cases_Bool, cond-true, cond-false, and_from, le-leb}
 use Rattle.values.specs.Bytes.{over}
 use Rattle.values.proofs.Over.{over_behind}
-use Rattle.stores.specs.Contents.{Entry, Contents, block_of, without}
-use Rattle.stores.specs.Laws.{BlockSized, Lawful, Rising}
-use Rattle.stores.proofs.Entries.{rising_bound}
+use Rattle.stores.specs.Contents.{Entry, block_of, without}
+use Rattle.stores.proofs.Entries.{Storable}
 use Rattle.entry_layout.specs.Layout.{block_at, entry_bytes, entry_in}
 use Rattle.entry_layout.proofs.EntryBytes.{length-entry, entry_read_back}
 use Rattle.packed_log.specs.Log.{packed_length, packed, followed, entries_in, found_from, taken_out}
 
--- An entry that is read back as it was written.
-abbrev pub Readable : Entry → Type 0
-Readable e = (e.number < 2 ^ 32) × BlockSized e.block
-
-rising_readable : (low last : ℕ) (es : List Entry) → last < 2 ^ 32 → Rising low last es → AllByRecursion (λ e. BlockSized e.block) es → AllByRecursion Readable es
-rising_readable low last [] n r s = tt
-rising_readable low last (e ∷ es) n r s =
-    let b = rising_bound e.number last es r.1 in
-    ((omega arith, s.0), rising_readable e.number last es n r.1 s.1)
-
-pub lawful_readable : (c : Contents) → Lawful c → AllByRecursion Readable c.held
-lawful_readable c l = rising_readable 0 c.last c.held l.narrow l.rising l.sized
-
 -- How long packed entries are.
 
-pub packed_length_bound : (es : List Entry) → AllByRecursion Readable es → packed_length es ≤ length es * 69
+pub packed_length_bound : (es : List Entry) → All Storable es → packed_length es ≤ length es * 69
 packed_length_bound [] f = omega arith
 packed_length_bound (e ∷ es) f =
-    let p = packed_length_bound es f.1 in
-    let q = f.0.1.1 in
+    let p = packed_length_bound es (All-tail Storable e es f) in
+    let q = (All-head Storable e es f).1.1 in
     let l = length-entry e in
     simp length-append (omega arith)
 
@@ -42,18 +30,19 @@ packed_length_bound (e ∷ es) f =
 entries_begin : (count : ℕ) (bytes : List ℕ) (e : Entry) → entry_in bytes ≡ Some e → entries_in (suc count) bytes ≡ e ∷ entries_in count (drop (5 + length e.block) bytes)
 entries_begin count bytes e h = ap (λ (o : Option Entry). followed o (λ e. entries_in count (drop (5 + length e.block) bytes))) h
 
-entries_read_back : (es : List Entry) (rest : List ℕ) → AllByRecursion Readable es → entries_in (length es) (flat_map entry_bytes es ++ rest) ≡ es
+entries_read_back : (es : List Entry) (rest : List ℕ) → All Storable es → entries_in (length es) (flat_map entry_bytes es ++ rest) ≡ es
 entries_read_back [] rest f = refl
 entries_read_back (e ∷ es) rest f =
     let behind : List ℕ = flat_map entry_bytes es ++ rest in
     let g : flat_map entry_bytes (e ∷ es) ++ rest ≡ entry_bytes e ++ behind = append_assoc (entry_bytes e) (flat_map entry_bytes es) rest in
     let d : drop (5 + length e.block) (entry_bytes e ++ behind) ≡ behind = drop_at (entry_bytes e) behind _ (length-entry e) in
+    let h = All-head Storable e es f in
     ap (entries_in (suc (length es))) g
-    ∙ entries_begin (length es) (entry_bytes e ++ behind) e (entry_read_back e behind f.0.0 f.0.1)
+    ∙ entries_begin (length es) (entry_bytes e ++ behind) e (entry_read_back e behind h.0 h.1)
     ∙ ap (λ (w : List ℕ). e ∷ entries_in (length es) w) d
-    ∙ ap (λ (fs : List Entry). e ∷ fs) (entries_read_back es rest f.1)
+    ∙ ap (λ (fs : List Entry). e ∷ fs) (entries_read_back es rest (All-tail Storable e es f))
 
-pub packed_read_back : (room count : ℕ) (es : List Entry) (tail : List ℕ) → AllByRecursion Readable es → count ≡ length es → entries_in count (packed room es tail) ≡ es
+pub packed_read_back : (room count : ℕ) (es : List Entry) (tail : List ℕ) → All Storable es → count ≡ length es → entries_in count (packed room es tail) ≡ es
 packed_read_back room count es tail f c = ap (λ (n : ℕ). entries_in n (packed room es tail)) c ∙ entries_read_back es (replicate (room - packed_length es) 0 ++ tail) f
 
 pub packed_tail : (room : ℕ) (es : List Entry) (tail : List ℕ) → packed_length es ≤ room → drop room (packed room es tail) ≡ tail
@@ -160,22 +149,22 @@ bytes_around before behind e rest =
     ∙ append_assoc (flat_map entry_bytes before) (entry_bytes e ++ flat_map entry_bytes behind) rest
     ∙ ap (λ (w : List ℕ). flat_map entry_bytes before ++ w) (append_assoc (entry_bytes e) (flat_map entry_bytes behind) rest)
 
-all_in_the_middle : (P : Entry → Type 0) (before behind : List Entry) (e : Entry) → AllByRecursion P (before ++ e ∷ behind) → P e
-all_in_the_middle P [] behind e h = h.0
-all_in_the_middle P (x ∷ before) behind e h = all_in_the_middle P before behind e h.1
+all_in_the_middle : (P : Entry → Type 0) (before behind : List Entry) (e : Entry) → All P (before ++ e ∷ behind) → P e
+all_in_the_middle P before behind e h =
+    subst P (get_or-append_seam before e behind e) (h (length before) e (omega (arith, length-append before (e ∷ behind))))
 
-entry_read_at_place : (number place : ℕ) (e : Entry) (es : List Entry) (rest : List ℕ) → Found number 0 place e es → AllByRecursion Readable es
+entry_read_at_place : (number place : ℕ) (e : Entry) (es : List Entry) (rest : List ℕ) → Found number 0 place e es → All Storable es
     → entry_in (drop place (flat_map entry_bytes es ++ rest)) ≡ Some e
 entry_read_at_place number place e es rest f h =
     let behind : List ℕ = flat_map entry_bytes f.behind ++ rest in
-    let r : Readable e = all_in_the_middle Readable f.before f.behind e (subst (AllByRecursion Readable) f.whole h) in
+    let r : Storable e = all_in_the_middle Storable f.before f.behind e (subst (All Storable) f.whole h) in
     let p : packed_length f.before ≡ place = let q = f.placed in omega arith in
     ap (λ (fs : List Entry). entry_in (drop place (flat_map entry_bytes fs ++ rest))) f.whole
     ∙ ap (λ (w : List ℕ). entry_in (drop place w)) (bytes_around f.before f.behind e rest)
     ∙ ap entry_in (drop_at (flat_map entry_bytes f.before) (entry_bytes e ++ behind) place p)
     ∙ entry_read_back e behind r.0 r.1
 
-pub block_read_at_place : (number : ℕ) (es : List Entry) (rest : List ℕ) (found : Option (ℕ × Entry)) → AllByRecursion Readable es → found ≡ found_from number 0 es
+pub block_read_at_place : (number : ℕ) (es : List Entry) (rest : List ℕ) (found : Option (ℕ × Entry)) → All Storable es → found ≡ found_from number 0 es
     → block_at (option_map (λ p. p.0) found) (flat_map entry_bytes es ++ rest) ≡ block_of number es
 block_read_at_place number es rest None h p = sym (nothing_at_no_place number 0 es (sym p))
 block_read_at_place number es rest (Some (place, e)) h p =

@@ -8,13 +8,13 @@ use Rattle.values.proofs.Answers.{refused}
 use Rattle.stores.specs.Calls.{admission, dropping}
 use Rattle.stores.specs.Contents.{Entry, entry, Contents, appended, dropped, block_of, without}
 use Rattle.stores.specs.Laws.{Lawful}
-use Rattle.stores.proofs.Entries.{length-without}
+use Rattle.stores.proofs.Entries.{length-without, lawful_storable}
 use Rattle.stores.proofs.Kept.{admitted, Lawful-appended, Lawful-dropped, drop_accepted, same_contents}
 use Rattle.entry_layout.specs.Layout.{block_at, capacity_of, entry_bytes, with_entry}
 use Rattle.entry_layout.proofs.EntryBytes.{length-entry}
 use Rattle.packed_log.specs.Log.{room, packed_length, packed, entries_in, found_from, taken_out}
 use Rattle.packed_log.specs.Meaning.{LogState, log_state, contents_of, Sound}
-use Rattle.packed_log.proofs.Packing.{lawful_readable, packed_length_bound, packed_read_back, packed_tail, length-packed, length_one_more, packed_one_more, found_at_place, nothing_at_no_place, block_read_at_place, length_around, packed_one_less}
+use Rattle.packed_log.proofs.Packing.{packed_length_bound, packed_read_back, packed_tail, length-packed, length_one_more, packed_one_more, found_at_place, nothing_at_no_place, block_read_at_place, length_around, packed_one_less}
 
 -- A log in bytes that were lent, with these contents.
 pub record LaidOut (s : LogState) (lent : List ℕ) (c : Contents) : Type 0 where
@@ -31,7 +31,7 @@ laid_out : (s : LogState) (lent : List ℕ) (c : Contents) → Lawful c → c.ca
 laid_out s lent c l k b h i u =
     let bytes : List ℕ = s.bytes in
     let tail : List ℕ = drop (room lent) lent in
-    let f = lawful_readable c l in
+    let f = lawful_storable c l in
     let bound = packed_length_bound c.held f in
     let within = l.within in
     let r = room_within lent in
@@ -60,7 +60,7 @@ laid_out s lent c l k b h i u =
 -- How many bytes the entries of a sound log take.
 used_bound : (s : LogState) → Sound s → s.used ≤ s.held * 69
 used_bound s h =
-    let b = packed_length_bound (contents_of s).held (lawful_readable (contents_of s) h.lawful) in
+    let b = packed_length_bound (contents_of s).held (lawful_storable (contents_of s) h.lawful) in
     let u = h.used in
     let n = h.counted in
     omega arith
@@ -98,7 +98,7 @@ pub block_at_found : {s : LogState} (number : ℕ) (found : Option (ℕ × Entry
 block_at_found {s = s} number found h p =
     let es : List Entry = (contents_of s).held in
     ap (block_at (option_map (λ p. p.0) found)) h.laid
-    ∙ block_read_at_place number es (replicate (room s.bytes - packed_length es) 0 ++ drop (room s.bytes) s.bytes) found (lawful_readable (contents_of s) h.lawful) p
+    ∙ block_read_at_place number es (replicate (room s.bytes - packed_length es) 0 ++ drop (room s.bytes) s.bytes) found (lawful_storable (contents_of s) h.lawful) p
 
 -- A found entry's bytes are among those used.
 pub size_within : {s : LogState} (number place : ℕ) (e : Entry) → Sound s → Some (place, e) ≡ found_from number 0 (contents_of s).held → 5 + length e.block ≤ s.used

@@ -9,8 +9,8 @@ use Rattle.std.proofs.lemmas.Iterator.{YieldsList, YieldsList-from_range}
 use Rattle.std.proofs.lemmas.Iterator.Consumers.{YieldsList-from_chain}
 use Rattle.std.proofs.lemmas.List.Folds.{find-append}
 use Rattle.std.proofs.lemmas.List.FromFn.{length-range_with_len, get_or-range_with_len}
-use Rattle.std.specs.List.{AllByRecursion, find, range_with_len}
-use Rattle.std.proofs.ByRecursion.{All-append, All-get_or}
+use Rattle.std.specs.List.{All, find, range_with_len}
+use Rattle.std.proofs.lemmas.List.Elements.{All-nil, All-cons, All-append}
 use Rattle.std.proofs.lemmas.List.{get_or-drop, get_or-take, get_or_append_left, get_or-append_right, length-drop, length-take, take-append-drop}
 use Rattle.std.proofs.lemmas.Bool.{cases_Bool, cases_lt}
 use Rattle.std.proofs.lemmas.Option.{none-some, same_Some}
@@ -70,12 +70,12 @@ within_turn start count k d h =
           omega arith
     ]
 
-pub none_passes : {X : Type 0} (test : X → Bool) (at : ℕ) (xs : List X) → first_place test at xs ≡ None → AllByRecursion (λ x. test x ≡ false) xs
-none_passes test at [] e = tt
+pub none_passes : {X : Type 0} (test : X → Bool) (at : ℕ) (xs : List X) → first_place test at xs ≡ None → All (λ x. test x ≡ false) xs
+none_passes test at [] e = All-nil (λ x. test x ≡ false)
 none_passes test at (x ∷ xs) e =
     elim (cases_Bool (test x)) [
       | inl t ↦ absurd (none-some _ (sym (rw t at e)))
-      | inr t ↦ (t, none_passes test (suc at) xs (rw t at e))
+      | inr t ↦ All-cons (λ x. test x ≡ false) x xs t (none_passes test (suc at) xs (rw t at e))
     ]
 
 pub one_passes : {X : Type 0} (test : X → Bool) (at : ℕ) (xs : List X) (place : ℕ) (d : X) → first_place test at xs ≡ Some place
@@ -95,14 +95,14 @@ one_passes test at (x ∷ xs) place d e =
           (omega arith, omega arith, rw k q.2)
     ]
 
-pub round_none : {X : Type 0} (test : X → Bool) (start : ℕ) (xs : List X) → going_round test start xs ≡ None → AllByRecursion (λ x. test x ≡ false) xs
+pub round_none : {X : Type 0} (test : X → Bool) (start : ℕ) (xs : List X) → going_round test start xs ≡ None → All (λ x. test x ≡ false) xs
 round_none test start xs e =
     split (first_place test start (drop start xs)) refl
   where
-    split : (o : Option ℕ) → first_place test start (drop start xs) ≡ o → AllByRecursion (λ x. test x ≡ false) xs
+    split : (o : Option ℕ) → first_place test start (drop start xs) ≡ o → All (λ x. test x ≡ false) xs
     split None f =
         let g : first_place test 0 (take start xs) ≡ None = rw f at e in
-        subst (AllByRecursion (λ x. test x ≡ false)) (take-append-drop start xs)
+        subst (All (λ x. test x ≡ false)) (take-append-drop start xs)
         (All-append (λ x. test x ≡ false) (take start xs) (drop start xs) (none_passes test 0 (take start xs) g) (none_passes test start (drop start xs) f))
     split (Some p) f = absurd (none-some _ (sym (rw f at e)))
 
@@ -152,9 +152,6 @@ passed_by test at (x ∷ xs) place d e k h =
     first_or_later zero h t later = t
     first_or_later (suc k) h t later = later k (omega arith)
 
-none_at : {X : Type 0} (test : X → Bool) (xs : List X) (k : ℕ) (d : X) → AllByRecursion (λ x. test x ≡ false) xs → k < length xs → test (get_or xs k d) ≡ false
-none_at test xs k d a h = All-get_or (λ x. test x ≡ false) xs k d h a
-
 pub nearest_is_found : NearestIsFound
 nearest_is_found test start slots = found (going_round test start slots) refl
   where
@@ -169,7 +166,7 @@ nearest_is_found test start slots = found (going_round test start slots) refl
         let k : start + (place - start) ≡ place = omega arith in
         let l = length-drop start slots in
         ap test (sym (get_or-drop start slots (place - start) None ∙ ap (λ (i : ℕ). get_or slots i None) k))
-        ∙ none_at test (drop start slots) (place - start) None (none_passes test start (drop start slots) f) (omega arith)
+        ∙ none_passes test start (drop start slots) f (place - start) None (omega arith)
 
     below : (place q : ℕ) → first_place test 0 (take start slots) ≡ Some q → q < start → place < q → test (get_or slots place None) ≡ false
     below place q g a b =
@@ -190,7 +187,7 @@ nearest_is_found test start slots = found (going_round test start slots) refl
           | inr n ↦ elim n.1 [ inl o ↦ rest place f o h | inr o ↦ below place q g (omega arith) o ]
         ]
 
-    found : (r : Option ℕ) → going_round test start slots ≡ r → MatchOption r (AllByRecursion (λ o. test o ≡ false) slots)
+    found : (r : Option ℕ) → going_round test start slots ≡ r → MatchOption r (All (λ o. test o ≡ false) slots)
         (λ found. (found < length slots) × (test (get_or slots found None) ≡ true) × ((place : ℕ) → place < length slots → MetBefore start found place → test (get_or slots place None) ≡ false))
     found None e = round_none test start slots e
     found (Some q) e =

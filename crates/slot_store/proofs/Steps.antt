@@ -1,15 +1,15 @@
 -- What filling, freeing and zeroing slots makes of the contents of a slot store.
 use Rattle.std.proofs.Common.{◌≡◌, ℕ, suc, ◌+◌, ◌-◌, ◌*◌, ◌^◌, ◌<◌, ◌≤◌, true, false, List, [], ◌∷◌, ◌++◌, length, get_or, drop, set, replicate, is_some, Some, None, Ok, Option, refl, sym, ap, ◌∙◌, subst, ap₂, arith}
 use Rattle.std.specs.Option.{option_map}
-use Rattle.std.specs.List.{AllByRecursion}
-use Rattle.std.proofs.ByRecursion.{All-set, All-weaker}
+use Rattle.std.specs.List.{All}
+use Rattle.std.proofs.lemmas.List.Elements.{All-set, All-weaker}
 use Rattle.std.proofs.lemmas.List.{length-set, length-replicate, length_push, get_or-set_same, set-set, set-get_or}
 use Rattle.std.proofs.lemmas.Bool.{cond-true, and_from, le-leb}
 use Rattle.values.specs.Bytes.{over}
 use Rattle.stores.specs.Calls.{admission, appending, dropping}
 use Rattle.stores.specs.Contents.{Entry, entry, Contents, emptied, appended, dropped, block_of, without}
-use Rattle.stores.specs.Laws.{BlockSized, Lawful}
-use Rattle.stores.proofs.Entries.{Lacks, nothing_found, rising_all_up_to, lacks_if_below}
+use Rattle.stores.specs.Laws.{Lawful}
+use Rattle.stores.proofs.Entries.{Lacks, Storable, nothing_found, rising_all_up_to, lacks_if_below, lawful_storable}
 use Rattle.entry_layout.specs.Layout.{block_at, capacity_of, entry_bytes, entry_in, with_entry, zeroed}
 use Rattle.stores.proofs.Kept.{admitted, append_accepted, drop_accepted, Lawful-appended, Lawful-dropped, Lawful-emptied}
 use Rattle.slot_store.specs.Meaning.{contents_of}
@@ -21,7 +21,7 @@ use Rattle.slot_store.specs.Search.{Finds, going_round, holds}
 use Rattle.slot_store.specs.Slots.{slotted, slots_of, tail_of, zeroed_slots}
 use Rattle.slot_store.proofs.Placing.{InSlot, length-placed, all_in_slots, placed_last, found_placed, without_placed, ranked_at, others_lack, none_found, all_taken, ranked_none, holding_entry}
 use Rattle.slot_store.proofs.Searches.{round_none, round_some, free_slot}
-use Rattle.slot_store.proofs.SlotBytes.{Storable, Relaid, relaid, count_of_slots, slot_at, slot_filled, slot_freed, slots_within, free_slots_bytes, free_slots_storable}
+use Rattle.slot_store.proofs.SlotBytes.{Relaid, relaid, count_of_slots, slot_at, slot_filled, slot_freed, slots_within, free_slots_bytes, free_slots_storable}
 
 -- The contents of bytes with this last number.
 abbrev pub contents_in : (bytes : List ℕ) (last : ℕ) → Contents
@@ -30,18 +30,9 @@ contents_in bytes last = record { held = ranked (slots_of bytes); last = last; c
 abbrev pub LaidOut : (bytes : List ℕ) → Type 0
 LaidOut bytes = bytes ≡ slotted (slots_of bytes) (tail_of bytes)
 
-both_parts : (P Q : Entry → Type 0) (xs : List Entry) → AllByRecursion P xs → AllByRecursion Q xs → AllByRecursion (λ x. P x × Q x) xs
-both_parts P Q [] p q = tt
-both_parts P Q (x ∷ xs) p q = ((p.0, q.0), both_parts P Q xs p.1 q.1)
-
 -- The entries of a lawful store can be written to slots.
-pub storable_slots : (bytes : List ℕ) (last : ℕ) → Lawful (contents_in bytes last) → AllByRecursion (InSlot Storable) (slots_of bytes)
-storable_slots bytes last l =
-    let n = l.narrow in
-    all_in_slots Storable (slots_of bytes)
-    (both_parts (λ e. e.number < 2 ^ 32) (λ e. BlockSized e.block) (ranked (slots_of bytes))
-    (All-weaker (λ e. e.number ≤ last) (λ e. e.number < 2 ^ 32) (λ e h. omega arith) (ranked (slots_of bytes)) (rising_all_up_to 0 last (ranked (slots_of bytes)) l.rising))
-    l.sized)
+pub storable_slots : (bytes : List ℕ) (last : ℕ) → Lawful (contents_in bytes last) → All (InSlot Storable) (slots_of bytes)
+storable_slots bytes last l = all_in_slots Storable (slots_of bytes) (lawful_storable (contents_in bytes last) l)
 
 contents_of_relaid : (bytes after : List ℕ) (last : ℕ) (new : List (Option Entry)) (held : List Entry) → Relaid bytes after new → ranked new ≡ held
     → contents_in after last ≡ record { held = held; last = last; capacity = capacity_of (length bytes) }
@@ -128,7 +119,7 @@ found_block bytes last number slot l h t =
     ap (block_of number) (ranked_at (slots_of bytes) slot e h p.1 lacks) ∙ found_placed number p.0 (ranked (set (slots_of bytes) slot None)) lacks in
     (ap (option_map (λ x. x.block)) there ∙ sym found, ap is_some found)
 
-pub no_block_found : (bytes : List ℕ) (number : ℕ) → AllByRecursion (λ o. holds (Some number) o ≡ false) (slots_of bytes) → block_of number (ranked (slots_of bytes)) ≡ None
+pub no_block_found : (bytes : List ℕ) (number : ℕ) → All (λ o. holds (Some number) o ≡ false) (slots_of bytes) → block_of number (ranked (slots_of bytes)) ≡ None
 no_block_found bytes number h = nothing_found number (ranked (slots_of bytes)) (none_found number (slots_of bytes) h)
 
 pub block_where_found : (bytes : List ℕ) (last number : ℕ) (r : Option ℕ) → Lawful (contents_in bytes last) → Finds number (slots_of bytes) r

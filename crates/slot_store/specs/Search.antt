@@ -1,6 +1,6 @@
 -- Searches among slots.
 use Rattle.std.specs.Prelude.{◌≡◌, ℕ, suc, ◌-◌, ◌<◌, ◌≤◌, Bool, true, false, ◌⊎◌, List, [], ◌∷◌, length, take, drop, Some, None, Option, MatchOption, ◌==◌, nat_le, slice_index_or, if◌then◌else◌}
-use Rattle.std.specs.List.{AllByRecursion}
+use Rattle.std.specs.List.{All}
 use Rattle.std.specs.Option.{option_or}
 use Rattle.stores.specs.Contents.{Entry}
 
@@ -38,12 +38,12 @@ MetBefore start found place = ((start ≤ place) × (place < found)) ⊎ ((found
 abbrev pub NearestIsFound : Type 0
 NearestIsFound =
     (test : Option Entry → Bool) (start : ℕ) (slots : List (Option Entry))
-    → MatchOption (going_round test start slots) (AllByRecursion (λ o. test o ≡ false) slots)
+    → MatchOption (going_round test start slots) (All (λ o. test o ≡ false) slots)
     (λ found. (found < length slots) × (test (slice_index_or slots found None) ≡ true)
     × ((place : ℕ) → place < length slots → MetBefore start found place → test (slice_index_or slots place None) ≡ false))
 
 -- What a search found: a slot that holds the number, or none where no slot does.
 abbrev pub Finds : (number : ℕ) → List (Option Entry) → Option ℕ → Type 0
 Finds number slots r =
-    MatchOption r (AllByRecursion (λ o. holds (Some number) o ≡ false) slots)
+    MatchOption r (All (λ o. holds (Some number) o ≡ false) slots)
     (λ slot. (slot < length slots) × (holds (Some number) (slice_index_or slots slot None) ≡ true))

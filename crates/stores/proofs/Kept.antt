@@ -1,6 +1,6 @@
 -- What the calls of a store make of its contents.
 use Rattle.std.proofs.Common.{◌≡◌, ℕ, ◌^◌, ◌<◌, ◌≤◌, true, not, ◌||◌, eqb, ltb, leb, List, length, is_some, Some, None, Ok, Err, Result, sym, refl, ap, ◌∙◌, subst, inl, inr, arith, lit<, lit≤}
-use Rattle.std.proofs.ByRecursion.{All-push}
+use Rattle.std.proofs.lemmas.List.Elements.{All-nil, All-push}
 use Rattle.std.proofs.lemmas.List.{length_push}
 use Rattle.std.proofs.lemmas.Bool.{cases_Bool, or_parts, eqb-false, ltb-false, leb-false}
 use Rattle.values.specs.Answers.{unless_refused}
@@ -42,7 +42,7 @@ admitted {B = B} number block held last capacity x y e =
     positive n h = omega arith
 
 pub Lawful-emptied : (capacity : ℕ) → capacity ≤ 4096 → Lawful (emptied capacity)
-Lawful-emptied capacity h = record { rising = lit≤ tt; sized = tt; within = omega arith; bounded = h; narrow = lit< tt }
+Lawful-emptied capacity h = record { rising = lit≤ tt; sized = All-nil (λ e. BlockSized e.block); within = omega arith; bounded = h; narrow = lit< tt }
 
 pub Lawful-appended : (c : Contents) (number : ℕ) (block : List ℕ) → Lawful c → number < 2 ^ 32 → Admitted number block (length c.held) c.last c.capacity
     → Lawful (appended number block c)

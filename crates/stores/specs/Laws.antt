@@ -1,6 +1,6 @@
 -- What holds of the contents of every store, and what becomes of its blocks.
 use Rattle.std.specs.Prelude.{◌≡◌, ℕ, ◌^◌, ◌<◌, ◌≤◌, ◌≢◌, List, [], ◌∷◌, length, Some, None, Ok}
-use Rattle.std.specs.List.{AllByRecursion}
+use Rattle.std.specs.List.{All}
 use Rattle.values.specs.Blocks.{max_block_length}
 use Rattle.stores.specs.Calls.{appending, dropping}
 use Rattle.stores.specs.Contents.{Entry, Contents, emptied, block_of}
@@ -16,7 +16,7 @@ BlockSized block = (0 < length block) × (length block ≤ max_block_length)
 
 pub record Lawful (c : Contents) : Type 0 where
   pub rising : Rising 0 c.last c.held
-  pub sized : AllByRecursion (λ e. BlockSized e.block) c.held
+  pub sized : All (λ e. BlockSized e.block) c.held
   pub within : length c.held ≤ c.capacity
   pub bounded : c.capacity ≤ 4096
   pub narrow : c.last < 2 ^ 32
