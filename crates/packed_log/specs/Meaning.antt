@@ -2,7 +2,6 @@
 use Rattle.std.specs.Prelude.{◌≡◌, ℕ, List, length, drop}
 use Rattle.stores.specs.Contents.{Contents}
 use Rattle.stores.specs.Laws.{Lawful}
-use Rattle.stores.specs.declared.admission.Standing.{Standing}
 use Rattle.entry_layout.specs.Layout.{capacity_of}
 use Rattle.packed_log.specs.Log.{room, packed, packed_length, entries_in}
 
@@ -19,10 +18,6 @@ log_state bytes held last used = record { bytes = bytes; held = held; last = las
 
 abbrev pub contents_of : LogState → Contents
 contents_of s = record { held = entries_in s.held s.bytes; last = s.last; capacity = capacity_of (length s.bytes) }
-
--- Where a store with these contents stands.
-abbrev pub standing_of : Contents → Standing
-standing_of c = record { held = length c.held; last = c.last; capacity = c.capacity }
 
 -- The bytes of the second log are its entries, packed, and behind the room the tail of the first.
 abbrev pub Laid : (before after : LogState) → Type 0

@@ -2,11 +2,11 @@
 ghost use Rattle.std.specs.Prelude.{◌≡◌, ◌++◌, length, drop, replicate, OnErr};
 ghost use Rattle.std.specs.Option.{option_map};
 ghost use Rattle.stores.specs.Calls.{Appends, Drops};
-ghost use Rattle.stores.specs.Contents.{emptied};
+ghost use Rattle.stores.specs.Contents.{emptied, standing_of};
 ghost use Rattle.stores.specs.Laws.{Lawful};
 ghost use Rattle.entry_layout.specs.Layout.{capacity_of};
 ghost use Rattle.packed_log.specs.Log.{packed, room, found_from};
-ghost use Rattle.packed_log.specs.Meaning.{LogState, log_state, contents_of, standing_of, Sound, Laid};
+ghost use Rattle.packed_log.specs.Meaning.{LogState, log_state, contents_of, Sound, Laid};
 ghost use Rattle.packed_log.specs.Walk.{placed};
 
 use crate::moves::take_out;

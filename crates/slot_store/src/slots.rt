@@ -1,7 +1,7 @@
 //! The slot store.
 ghost use Rattle.std.specs.Prelude.{◌≡◌, ◌<◌, length, IfSome, Some, None, OnErr, OnOk};
 ghost use Rattle.stores.specs.Calls.{Appends, Drops};
-ghost use Rattle.stores.specs.Contents.{emptied, entry};
+ghost use Rattle.stores.specs.Contents.{emptied, entry, standing_of};
 ghost use Rattle.stores.specs.Laws.{Lawful};
 ghost use Rattle.entry_layout.specs.Layout.{capacity_of};
 ghost use Rattle.slot_store.specs.Meaning.{contents_of, Filled, Freed, Zeroed};
@@ -69,9 +69,7 @@ impl<'a> SlotStore<'a> {
 
     // Where the store stands, as far as appending goes.
     fn standing(&self) -> Standing
-        ensures held { result.held ≡ length (contents_of self.now).held }
-        ensures last { result.last ≡ self.now.last }
-        ensures capacity { result.capacity ≡ capacity_of (length self.now.bytes) }
+        ensures { result ≡ standing_of (contents_of self.now) }
     {
         Standing {
             held: self.held,

@@ -1,5 +1,6 @@
 -- What a store holds.
-use Rattle.std.specs.Prelude.{ℕ, List, [], ◌∷◌, ◌++◌, Some, None, Option, ◌==◌, if◌then◌else◌}
+use Rattle.std.specs.Prelude.{ℕ, List, [], ◌∷◌, ◌++◌, length, Some, None, Option, ◌==◌, if◌then◌else◌}
+use Rattle.stores.specs.declared.admission.Standing.{Standing}
 
 -- A block under its number.
 pub record Entry : Type 0 where
@@ -14,6 +15,10 @@ pub record Contents : Type 0 where
   pub held : List Entry
   pub last : ℕ
   pub capacity : ℕ
+
+-- Where a store with these contents stands.
+abbrev pub standing_of : Contents → Standing
+standing_of c = record { held = length c.held; last = c.last; capacity = c.capacity }
 
 -- A new store, or one that was cleared.
 abbrev pub emptied : (capacity : ℕ) → Contents

@@ -5,12 +5,12 @@ use Rattle.slot_store.proofs.slots.SlotStoreStore.append.Goals as goal
 
 pub returns-in_err-slot-clause-appends : goal.returns-in_err-slot-clause-appends
 returns-in_err-slot-clause-appends c =
-    let admits = rw (c.standing.ensures.held, c.standing.ensures.last, c.standing.ensures.capacity) at c.in_ok-admit.ensures in
+    let admits = rw c.standing.ensures at c.in_ok-admit.ensures in
     absurd (room_has_a_slot c.args.self.now c.args.number c.args.block.now admits (sym c.free_slot.ensures.place ∙ c.in_err-slot.ensures.ok_part))
 
 pub invariant_of-self : goal.invariant_of-self
 invariant_of-self c =
-    let admits = rw (c.standing.ensures.held, c.standing.ensures.last, c.standing.ensures.capacity, ← c.self.view_is) at c.in_ok-admit.ensures in
+    let admits = rw (c.standing.ensures, ← c.self.view_is) at c.in_ok-admit.ensures in
     let free = rw (← c.self.view_is) at (sym c.free_slot.ensures.place ∙ c.in_ok-slot.ensures.ok_part) in
     let e = entry c.args.number c.args.block.now in
     let a = append_step c.self.inside c.write.new.bytes c.in_ok-slot.slot e c.self.invariant admits (omega arith) free c.write.ensures in
@@ -18,7 +18,7 @@ invariant_of-self c =
 
 pub returns : goal.returns
 returns c =
-    let admits = rw (c.standing.ensures.held, c.standing.ensures.last, c.standing.ensures.capacity, ← c.self.view_is) at c.in_ok-admit.ensures in
+    let admits = rw (c.standing.ensures, ← c.self.view_is) at c.in_ok-admit.ensures in
     let free = rw (← c.self.view_is) at (sym c.free_slot.ensures.place ∙ c.in_ok-slot.ensures.ok_part) in
     let e = entry c.args.number c.args.block.now in
     let a = append_step c.self.inside c.write.new.bytes c.in_ok-slot.slot e c.self.invariant admits (omega arith) free c.write.ensures in
