@@ -42,6 +42,7 @@ contents_of_relaid bytes after last new held r e =
 -- An entry appended to a store with these fields.
 
 pub record Appended (s : Inside) (after : List ℕ) (slot : ℕ) (e : Entry) : Type 0 where
+  pub free : going_round (holds None) s.next (slots_of s.bytes.now) ≡ Some slot
   pub accepted : Ok (contents_in after e.number) ≡ appending e.number e.block (contents_of (state_of s))
   pub laid : LaidOut after
   pub counted : s.held + 1 ≡ length (contents_in after e.number).held
@@ -89,6 +90,7 @@ append_step store after slot e sound admits narrow g w =
     let j = length_push (ranked (slots_of bytes)) e in
     let held : length (contents_in after e.number).held ≡ length (ranked (slots_of bytes) ++ e ∷ []) = ap (λ (d : Contents). length d.held) contents in
     record {
+      free = g;
       accepted = append_accepted (contents_in bytes last) (contents_in after e.number) e.number e.block (length (ranked (slots_of bytes))) (capacity_of (length bytes)) admits refl refl contents;
       laid = again.laid;
       counted = omega arith;
@@ -130,6 +132,7 @@ block_where_found bytes last number (Some slot) l f = (found_block bytes last nu
 -- An entry dropped from a store with these fields.
 
 pub record Dropped (s : Inside) (after : List ℕ) (slot number : ℕ) : Type 0 where
+  pub held : holds (Some number) (get_or (slots_of s.bytes.now) slot None) ≡ true
   pub accepted : Ok (contents_in after s.last) ≡ dropping number (contents_of (state_of s))
   pub laid : LaidOut after
   pub counted : s.held ≡ length (contents_in after s.last).held + 1
@@ -164,6 +167,7 @@ drop_step store after slot number sound h t w =
     ap length rank ∙ length-placed e (ranked new) ∙ ap (λ (ss : List (Option Entry)). suc (length (ranked ss))) (sym again.slots) in
     let k = sound.counted in
     record {
+      held = t;
       accepted = drop_accepted (contents_in bytes last) (contents_in after last) number (found_block bytes last number slot l h t).1 contents;
       laid = again.laid;
       counted = omega arith;
@@ -180,8 +184,8 @@ pub record Cleared (bytes after : List ℕ) : Type 0 where
   pub lawful : Lawful (contents_in after 0)
   pub zeroed : after ≡ zeroed_slots bytes
 
-pub clear_step : (bytes after : List ℕ) → after ≡ zeroed 0 (capacity_of (length bytes) * 69) bytes → Cleared bytes after
-clear_step bytes after w =
+pub clear_step : (bytes : List ℕ) {after : List ℕ} → after ≡ zeroed 0 (capacity_of (length bytes) * 69) bytes → Cleared bytes after
+clear_step bytes {after} w =
     let n : ℕ = capacity_of (length bytes) in
     let r = slots_within bytes in
     let lz : length (replicate {A = ℕ} (n * 69) 0) ≡ n * 69 = length-replicate (n * 69) 0 in

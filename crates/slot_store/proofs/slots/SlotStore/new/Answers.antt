@@ -4,10 +4,10 @@ use Rattle.slot_store.proofs.slots.SlotStore.new.Goals as goal
 
 pub invariant_of-result : goal.invariant_of-result
 invariant_of-result c =
-    let k = clear_step c.args.bytes.now c.fill_zero.new.bytes (rw c.capacity_of-end.ensures at c.fill_zero.ensures) in
+    let k = clear_step c.args.bytes.now (rw c.capacity_of-end.ensures at c.fill_zero.ensures) in
     record { laid = k.laid; counted = k.counted; lawful = k.lawful }
 
 pub returns : goal.returns
 returns c =
-    let k = clear_step c.args.bytes.now c.fill_zero.new.bytes (rw c.capacity_of-end.ensures at c.fill_zero.ensures) in
+    let k = clear_step c.args.bytes.now (rw c.capacity_of-end.ensures at c.fill_zero.ensures) in
     record { contents = k.contents; lawful = k.lawful; bytes = k.zeroed; next = refl }

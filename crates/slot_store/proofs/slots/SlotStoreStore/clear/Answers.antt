@@ -4,10 +4,10 @@ use Rattle.slot_store.proofs.slots.SlotStoreStore.clear.Goals as goal
 
 pub invariant_of-self : goal.invariant_of-self
 invariant_of-self c =
-    let k = clear_step c.self.inside.bytes.now c.fill_zero.new.bytes (rw (c.capacity-end.ensures.room, ← c.self.view_is) at c.fill_zero.ensures) in
+    let k = clear_step c.self.inside.bytes.now (rw (c.capacity-end.ensures.room, ← c.self.view_is) at c.fill_zero.ensures) in
     record { laid = k.laid; counted = k.counted; lawful = k.lawful }
 
 pub returns : goal.returns
 returns c =
-    let k = clear_step c.self.inside.bytes.now c.fill_zero.new.bytes (rw (c.capacity-end.ensures.room, ← c.self.view_is) at c.fill_zero.ensures) in
+    let k = clear_step c.self.inside.bytes.now (rw (c.capacity-end.ensures.room, ← c.self.view_is) at c.fill_zero.ensures) in
     rw (← c.self.view_is) (record { cleared = k.contents; lawful = k.lawful; zeroed = record { bytes = k.zeroed; next = refl } })
