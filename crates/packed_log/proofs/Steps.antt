@@ -13,8 +13,11 @@ use Rattle.stores.proofs.Kept.{admitted, Lawful-appended, Lawful-dropped, drop_a
 use Rattle.entry_layout.specs.Layout.{block_at, capacity_of, entry_bytes, with_entry}
 use Rattle.entry_layout.proofs.EntryBytes.{length-entry}
 use Rattle.packed_log.specs.Log.{room, packed_length, packed, entries_in, found_from, taken_out}
-use Rattle.packed_log.specs.Meaning.{LogState, log_state, contents_of, Sound}
+use Rattle.packed_log.specs.Meaning.{LogState, contents_of, Sound}
 use Rattle.packed_log.proofs.Packing.{packed_length_bound, packed_read_back, packed_tail, length-packed, length_one_more, packed_one_more, found_at_place, nothing_at_no_place, block_read_at_place, length_around, packed_one_less}
+
+abbrev pub log_state : (bytes : List ℕ) (held last used : ℕ) → LogState
+log_state bytes held last used = record { bytes = bytes; held = held; last = last; used = used }
 
 -- A log in bytes that were lent, with these contents.
 pub record LaidOut (s : LogState) (lent : List ℕ) (c : Contents) : Type 0 where

@@ -1,3 +1,4 @@
 pub mod Log
 pub mod Meaning
+pub mod State
 pub mod Walk

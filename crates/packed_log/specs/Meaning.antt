@@ -13,9 +13,6 @@ pub record LogState : Type 0 where
   pub last : ℕ
   pub used : ℕ
 
-abbrev pub log_state : (bytes : List ℕ) (held last used : ℕ) → LogState
-log_state bytes held last used = record { bytes = bytes; held = held; last = last; used = used }
-
 abbrev pub contents_of : LogState → Contents
 contents_of s = record { held = entries_in s.held s.bytes; last = s.last; capacity = capacity_of (length s.bytes) }
 

@@ -6,7 +6,7 @@ ghost use Rattle.stores.specs.Contents.{emptied, standing_of};
 ghost use Rattle.stores.specs.Laws.{Lawful};
 ghost use Rattle.entry_layout.specs.Layout.{capacity_of};
 ghost use Rattle.packed_log.specs.Log.{packed, room, found_from};
-ghost use Rattle.packed_log.specs.Meaning.{LogState, log_state, contents_of, Sound, Laid};
+ghost use Rattle.packed_log.specs.Meaning.{contents_of, Laid};
 ghost use Rattle.packed_log.specs.Walk.{placed};
 
 use crate::moves::take_out;
@@ -30,11 +30,15 @@ pub struct PackedLog<'a> {
 }
 
 impl<'a> Model for PackedLog<'a> {
+    ghost use Rattle.packed_log.specs.Meaning.{LogState, Sound};
+
     ghost Value = { LogState };
 
-    ghost view = { λ s. log_state s.bytes.now s.held s.last s.used };
+    ghost use Rattle.packed_log.specs.State.{state_of};
 
-    ghost invariant = { λ s. Sound (log_state s.bytes.now s.held s.last s.used) };
+    ghost view = { state_of };
+
+    ghost invariant = { λ s. Sound (state_of s) };
 }
 
 impl<'a> PackedLog<'a> {
