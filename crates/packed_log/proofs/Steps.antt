@@ -68,11 +68,11 @@ used_bound s h =
     let n = h.counted in
     omega arith
 
-pub log_appended : {before : LogState} (number : ℕ) (block bytes : List ℕ) → Sound before
+pub log_appended : {before : LogState} (number : ℕ) (block : List ℕ) {bytes : List ℕ} → Sound before
     → Ok tt ≡ admission number block (length (contents_of before).held) before.last (contents_of before).capacity → number < 2 ^ 32
     → bytes ≡ with_entry before.used (entry number block) before.bytes
     → LaidOut (log_state bytes (before.held + 1) number (before.used + (5 + length block))) before.bytes (appended number block (contents_of before))
-log_appended {before = before} number block bytes s ok n b =
+log_appended {before = before} number block {bytes} s ok n b =
     let lent : List ℕ = before.bytes in
     let es : List Entry = (contents_of before).held in
     let e : Entry = entry number block in
@@ -104,17 +104,17 @@ block_at_found {s = s} number found h p =
     ∙ block_read_at_place number es (replicate (room s.bytes - packed_length es) 0 ++ drop (room s.bytes) s.bytes) found (lawful_storable (contents_of s) h.lawful) p
 
 -- A found entry's bytes are among those used.
-pub size_within : {s : LogState} (number place : ℕ) (e : Entry) → Sound s → Some (place, e) ≡ found_from number 0 (contents_of s).held → 5 + length e.block ≤ s.used
-size_within {s = s} number place e h p =
+pub size_within : {s : LogState} (number : ℕ) {place : ℕ} {e : Entry} → Sound s → Some (place, e) ≡ found_from number 0 (contents_of s).held → 5 + length e.block ≤ s.used
+size_within {s = s} number {place} {e} h p =
     let es : List Entry = (contents_of s).held in
     let l = (length_around number 0 place e es (found_at_place number 0 place e es (sym p))).0 in
     let u = h.used in
     omega arith
 
-pub log_dropped : {before : LogState} (number place size : ℕ) (e : Entry) (bytes : List ℕ) → Sound before → Some (place, e) ≡ found_from number 0 (contents_of before).held
+pub log_dropped : {before : LogState} (number : ℕ) {place size : ℕ} {e : Entry} {bytes : List ℕ} → Sound before → Some (place, e) ≡ found_from number 0 (contents_of before).held
     → size ≡ 5 + length e.block → bytes ≡ taken_out place size before.used before.bytes
     → LaidOut (log_state bytes (before.held - 1) before.last (before.used - size)) before.bytes (dropped number (contents_of before))
-log_dropped {before = before} number place size e bytes s p z b =
+log_dropped {before = before} number {place} {size} {e} {bytes} s p z b =
     let lent : List ℕ = before.bytes in
     let es : List Entry = (contents_of before).held in
     let tail : List ℕ = drop (room lent) lent in
@@ -136,8 +136,8 @@ log_dropped {before = before} number place size e bytes s p z b =
 
 -- What a drop answers, by what was found.
 
-pub drop_found : (c d : Contents) (number place : ℕ) (e : Entry) → Some (place, e) ≡ found_from number 0 c.held → d ≡ dropped number c → Ok d ≡ dropping number c
-drop_found c d number place e p h = drop_accepted c d number (ap is_some (found_at_place number 0 place e c.held (sym p)).block) h
+pub drop_found : (c d : Contents) (number : ℕ) {place : ℕ} {e : Entry} → Some (place, e) ≡ found_from number 0 c.held → d ≡ dropped number c → Ok d ≡ dropping number c
+drop_found c d number {place} {e} p h = drop_accepted c d number (ap is_some (found_at_place number 0 place e c.held (sym p)).block) h
 
 pub drop_refused : (c : Contents) (number : ℕ) → None ≡ found_from number 0 c.held → Err 20 ≡ dropping number c
 drop_refused c number p = refused (is_some (block_of number c.held)) 20 (dropped number c) (ap is_some (nothing_at_no_place number 0 c.held (sym p)))
