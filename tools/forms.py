@@ -89,7 +89,7 @@ def companions():
 def main():
     grep("1 own enums", r"^\s*(pub )?enum ")
     grep("1 numbers for refusals", r"[Rr]efusal\.number\(\)|answer: u8|=> \d+,$")
-    grep("1 numbers that stand for no number", r"const TOO_")
+    grep("1 numbers that stand for no number", r"const TOO_\w+: u")
     grep("1 matches on an Option or a Result", r"\b(Some|Ok)\((_|\w+)\) => ")
     grep("1 giving up by hand where there is none", r"let Some\(.*\belse \{|is_some\(\) \{")
     twins()

@@ -42,6 +42,7 @@ impl fmt::Display for Call<'_> {
 }
 
 /// A store whose memory can be shown.
+// Not in `stores`, whose interface knows no bytes. The tests of the stores have the same.
 trait Shown: Store {
     fn memory(&self) -> &[u8];
 }

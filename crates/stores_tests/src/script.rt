@@ -114,6 +114,9 @@ fn holds_block(buffer: &[u8], number: u32, length: usize) -> bool {
     })
 }
 
+// The runtime, the store and the place in the script stay three parameters here and below: the store
+// is lent in two ways, and a struct of them would be built anew for each step.
+
 // Reads into a buffer: a block of this length at its front, or where the read is refused nothing.
 fn read_into<S: Store, R: Abort>(
     rt: &R,
