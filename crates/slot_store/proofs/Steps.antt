@@ -99,13 +99,17 @@ append_step store after slot e sound admits narrow g w =
     }
 
 -- Where there is room, some slot is free.
-pub room_has_a_slot : (v : SlotState) (number : ℕ) (block : List ℕ) → Ok tt ≡ admission number block (length (contents_of v).held) v.last (contents_of v).capacity
-    → going_round (holds None) v.next (slots_of v.bytes) ≡ None → ⊥
-room_has_a_slot v number block admits e =
-    let h = (admitted number block (length (contents_of v).held) v.last (contents_of v).capacity tt tt admits).0.room in
-    let n = count_of_slots (capacity_of (length v.bytes)) v.bytes in
-    let t = all_taken (slots_of v.bytes) (round_none (holds None) v.next (slots_of v.bytes) e) in
+pub room_has_a_slot : (bytes : List ℕ) (next : ℕ) → length (ranked (slots_of bytes)) < capacity_of (length bytes) → going_round (holds None) next (slots_of bytes) ≡ None → ⊥
+room_has_a_slot bytes next h e =
+    let n = count_of_slots (capacity_of (length bytes)) bytes in
+    let t = all_taken (slots_of bytes) (round_none (holds None) next (slots_of bytes) e) in
     omega arith
+
+-- So a store that admits an append has one.
+pub admission_has_a_slot : (v : SlotState) (number : ℕ) (block : List ℕ) → Ok tt ≡ admission number block (length (contents_of v).held) v.last (contents_of v).capacity
+    → going_round (holds None) v.next (slots_of v.bytes) ≡ None → ⊥
+admission_has_a_slot v number block admits e =
+    room_has_a_slot v.bytes v.next (admitted number block (length (contents_of v).held) v.last (contents_of v).capacity tt tt admits).0.room e
 
 -- What a search by number found.
 

@@ -1,7 +1,7 @@
 use Rattle.std.proofs.Common.{◌≡◌, ℕ, ◌*◌, List, sym, ◌∙◌, add-one}
 use Rattle.stores.specs.Contents.{entry}
 use Rattle.entry_layout.specs.Layout.{with_entry}
-use Rattle.slot_store.proofs.Steps.{Appended, append_step, room_has_a_slot}
+use Rattle.slot_store.proofs.Steps.{Appended, append_step, admission_has_a_slot}
 use Rattle.slot_store.proofs.slots.SlotStoreStore.append.Goals as goal
 use Rattle.slot_store.proofs.slots.SlotStoreStore.append.Goals.{In_ok-slot}
 
@@ -16,7 +16,7 @@ filled c after writing =
 pub returns-in_err-slot-clause-appends : goal.returns-in_err-slot-clause-appends
 returns-in_err-slot-clause-appends c =
     let admits = rw c.standing.ensures at c.in_ok-admit.ensures in
-    absurd (room_has_a_slot c.args.self.now c.args.number c.args.block.now admits (sym c.free_slot.ensures.place ∙ c.in_err-slot.ensures.ok_part))
+    absurd (admission_has_a_slot c.args.self.now c.args.number c.args.block.now admits (sym c.free_slot.ensures.place ∙ c.in_err-slot.ensures.ok_part))
 
 pub invariant_of-self : goal.invariant_of-self
 invariant_of-self c =
