@@ -86,6 +86,7 @@ impl fmt::Display for At<'_> {
 }
 
 /// A store whose lent bytes can be looked at.
+// Not in `stores`, whose interface knows no bytes; for three lines a crate of its own is no plainer.
 pub trait Bytes {
     fn seen(&self) -> &[u8];
 }

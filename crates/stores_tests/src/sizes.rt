@@ -140,7 +140,7 @@ fn the_most_in_a_log(rt: HostRuntime) -> Result<(), Fail> {
     let steps = filling(rt.alloc())?;
     let mut entries = Vec::new(rt.alloc());
     let mut at: usize = 0;
-    // A loop: each entry begins where the one before it ends.
+    // A loop: each entry begins where the one before it ends, and a fold would carry the list too.
     for number in 2..4097u32 {
         entries.push(entry(at, number, varied(number)))?;
         at = at.saturating_add(5).saturating_add(varied(number));
