@@ -2,8 +2,9 @@
 use Rattle.std.proofs.Common.{◌≡◌, ℕ, zero, suc, ◌+◌, ◌-◌, ◌^◌, ◌<◌, ◌≤◌, Bool, false, ltb, leb, ◌&&◌, None, Ok, Err, Result, length, sym, refl, arith, pow_mono, ap₂, cond, ◌∙◌}
 use Rattle.std.proofs.lemmas.Bool.{cond-true, lt-ltb, le-leb}
 use Rattle.std.proofs.lemmas.Bool.Decides.{nat_tests}
-use Rattle.std.proofs.lemmas.List.Sums.{length-filter, sum_by-cons}
-use Rattle.std.specs.Prelude.{filter, count_by, MatchResult}
+use Rattle.std.proofs.lemmas.List.FromFn.{length-range_with_len}
+use Rattle.std.proofs.lemmas.List.Sums.{count_by-le-length, sum_by-cons}
+use Rattle.std.specs.Prelude.{count_by, sum_by, MatchResult}
 use Rattle.std.specs.List.{range_with_len}
 use Rattle.values.specs.Answers.{answer}
 use Rattle.values.specs.Moments.{moment_at}
@@ -32,11 +33,22 @@ count_by_is_kept kept (suc n) t h =
     ∙ ap₂ (λ (b : Bool) (k : ℕ). cond b 1 0 + k) low (count_by_is_kept kept n (t + 1) (omega arith))
     ∙ sym (sum_by-cons (λ x. cond (kept x) 1 0) t rest)
 
--- So the test counts the kept moments of a stretch.
-pub count_of_kept : (kept : ℕ → Bool) (first last : ℕ) → first ≤ last → last ≤ 1048575 → length (filter (is_kept kept) (range_with_len first (last + 1 - first))) ≡ count_kept kept first last
+-- A sum of a one for each number that passes the test.
+abbrev pub one_if_kept : (kept : ℕ → Bool) (n : ℕ) → ℕ
+one_if_kept kept n = cond (is_kept kept n) 1 0
+
+-- So it counts the kept moments of a stretch.
+pub sum_of_kept : (kept : ℕ → Bool) (first last : ℕ) → first ≤ last → last ≤ 1048575 → sum_by (one_if_kept kept) (range_with_len first (last + 1 - first)) ≡ count_kept kept first last
 unfolding count_kept
-count_of_kept kept first last ordered h =
-    length-filter (is_kept kept) (range_with_len first (last + 1 - first)) ∙ count_by_is_kept kept (last + 1 - first) first (omega arith)
+sum_of_kept kept first last ordered h = count_by_is_kept kept (last + 1 - first) first (omega arith)
+
+-- And it fits into 32 bits.
+pub few_are_kept : (kept : ℕ → Bool) (first last : ℕ) → first ≤ last → last ≤ 1048575 → sum_by (one_if_kept kept) (range_with_len first (last + 1 - first)) < 4294967296
+few_are_kept kept first last ordered h =
+    let numbers = range_with_len first (last + 1 - first) in
+    let few : count_by (is_kept kept) numbers ≤ length numbers = count_by-le-length (is_kept kept) numbers in
+    let many : length numbers ≡ last + 1 - first = length-range_with_len first (last + 1 - first) in
+    omega arith
 
 -- No moment is so old that it would stand in a row above the twentieth.
 pub no_row_above : (row m : ℕ) → 20 < row → m ≤ 1048575 → None ≡ ages_of row m

@@ -33,11 +33,11 @@ impl Stretch {
     fn between(first: u32, last: u32) -> Option<Stretch>
         ensures { option_map (λ s. (s.first.value, s.last.value)) result ≡ stretch_between first last }
     {
-        let first = Moment::try_from(first).ok()?;
-        let last = Moment::try_from(last).ok()?;
         if first > last {
             return None;
         }
+        let last = Moment::try_from(last).ok()?;
+        let first = Moment::try_from(first).ok()?;
         Some(Stretch { first, last })
     }
 
@@ -106,11 +106,16 @@ impl Stretch {
     pub fn kept<P: Policy>(self, policy: &P, present: Moment) -> u32
         ensures { result ≡ count_kept (λ t. P.Policy.kept policy.now t present.value) self.first.value self.last.value }
     {
-        // Not `..=`: the library has no lemma on what a chain over it gives.
+        // Not `..=`: the library has no lemma on what a chain over it gives. And a sum of ones, not
+        // `filter(..).count()`: that searches for each kept moment anew, which takes several times as
+        // long where most are kept.
         let numbers = self.first.number()..self.last.number() + 1;
         numbers
-            .filter(|number| Moment::try_from(*number).is_ok_and(|t| policy.keeps(t, present)))
-            .count() as u32
+            .map(|number| {
+                let kept = Moment::try_from(number).is_ok_and(|t| policy.keeps(t, present));
+                u32::from(kept)
+            })
+            .sum()
     }
 
     /// How many of its moments the policy does not keep at `present`.

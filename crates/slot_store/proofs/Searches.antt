@@ -1,18 +1,10 @@
 -- Searches: what they pass over, and what they find.
-use Rattle.std.proofs.Common.{◌≡◌, ℕ, zero, suc, ◌+◌, ◌-◌, ◌<◌, ◌≤◌, min, Bool, true, false, cond, List, [], ◌∷◌, ◌++◌, length, get_or, take, drop, Some, None, Option, sym, refl, ap, ◌∙◌, ap₂, subst, inl, inr, add-one, arith, MatchOption, length-append}
+use Rattle.std.proofs.Common.{◌≡◌, ℕ, zero, suc, ◌+◌, ◌-◌, ◌<◌, ◌≤◌, min, Bool, true, false, cond, List, [], ◌∷◌, length, get_or, take, drop, Some, None, Option, sym, refl, ap, ◌∙◌, ap₂, subst, inl, inr, add-one, arith, MatchOption, IfSome}
 use Rattle.std.specs.Option.{option_or}
-use Rattle.std.specs.Iterator.Adapters.{chain_first, chain_first_done, chain_second, chain_second_done, chain_steps}
-use Rattle.std.specs.declared.iter.Chain.{Chain}
-use Rattle.std.specs.declared.ops.Range.{Range}
-use Rattle.std.proofs.iter.Yields.{nat_range_steps}
-use Rattle.std.proofs.lemmas.Iterator.{YieldsList, YieldsList-from_range}
-use Rattle.std.proofs.lemmas.Iterator.Consumers.{YieldsList-from_chain}
-use Rattle.std.proofs.lemmas.List.Folds.{find-append}
-use Rattle.std.proofs.lemmas.List.FromFn.{length-range_with_len, get_or-range_with_len}
 use Rattle.std.specs.List.{All, find, range_with_len}
 use Rattle.std.proofs.lemmas.List.Elements.{All-nil, All-cons, All-append}
-use Rattle.std.proofs.lemmas.List.{get_or-drop, get_or-take, get_or_append_left, get_or-append_right, length-drop, length-take, take-append-drop}
-use Rattle.std.proofs.lemmas.Bool.{cases_Bool, cases_lt}
+use Rattle.std.proofs.lemmas.List.{get_or-drop, get_or-take, length-drop, length-take, take-append-drop}
+use Rattle.std.proofs.lemmas.Bool.{cases_Bool}
 use Rattle.std.proofs.lemmas.Option.{none-some, same_Some}
 use Rattle.slot_store.specs.Search.{first_place, going_round, Finds, MetBefore, NearestIsFound, holds}
 use Rattle.stores.specs.Contents.{Entry}
@@ -29,46 +21,25 @@ in_range by_place test at (x ∷ xs) d h =
     ap₂ (λ (b : Bool) (o : Option ℕ). cond b (Some at) o) here
     (in_range by_place test (at + 1) xs d step ∙ ap (λ (n : ℕ). first_place test n xs) (add-one at))
 
--- The places from `start` on among `count`, and round to the front.
-abbrev pub turn : (start count : ℕ) → List ℕ
-turn start count = range_with_len start (count - start) ++ range_with_len 0 (min start count)
-
--- Two ranges, one behind the other, yield these places.
-pub YieldsList-turn_of_places : (s : Chain (Range ℕ) (Range ℕ)) (start count end : ℕ) → chain_first s ≡ record { start = start; end = count } → chain_second s ≡ record { start = 0; end = end }
-    → end ≡ min start count → chain_first_done s ≡ false → chain_second_done s ≡ false → YieldsList (chain_steps nat_range_steps nat_range_steps) (λ x. x) s (turn start count)
-YieldsList-turn_of_places s start count end first second e p q =
-    let n : end - 0 ≡ min start count = omega arith in
-    YieldsList-from_chain (YieldsList-from_range start count (count - start) first refl) (YieldsList-from_range 0 end (min start count) second n) p q
-
+-- A search through the places from `start` on, and then through those before it.
 pub found_in_turn : {X : Type 0} (by_place : ℕ → Bool) (test : X → Bool) (start : ℕ) (xs : List X) (d : X) → ((k : ℕ) → k < length xs → by_place k ≡ test (get_or xs k d))
-    → find by_place (turn start (length xs)) ≡ going_round test start xs
+    → option_or (find by_place (range_with_len start (length xs - start))) (find by_place (range_with_len 0 (min start (length xs) - 0))) ≡ going_round test start xs
 found_in_turn by_place test start xs d h =
-    let n = length-drop start xs in
-    let m = length-take start xs in
+    let n : length xs - start ≡ length (drop start xs) = sym (length-drop start xs) in
+    let l = length-take start xs in
+    let m : min start (length xs) - 0 ≡ length (take start xs) = omega arith in
     let above : (k : ℕ) → k < length (drop start xs) → by_place (start + k) ≡ test (get_or (drop start xs) k d) =
     λ k l. h (start + k) (omega arith) ∙ ap test (sym (get_or-drop start xs k d)) in
     let below : (k : ℕ) → k < length (take start xs) → by_place (0 + k) ≡ test (get_or (take start xs) k d) =
     λ k l. let z : 0 + k ≡ k = omega arith in ap by_place z ∙ h k (omega arith) ∙ ap test (sym (get_or-take start xs k d (omega arith))) in
-    find-append by_place (range_with_len start (length xs - start)) (range_with_len 0 (min start (length xs)))
-    ∙ ap₂ option_or
-    (ap (λ (k : ℕ). find by_place (range_with_len start k)) (sym n) ∙ in_range by_place test start (drop start xs) d above)
-    (ap (λ (k : ℕ). find by_place (range_with_len 0 k)) (sym m) ∙ in_range by_place test 0 (take start xs) d below)
+    ap₂ option_or
+    (ap (λ (k : ℕ). find by_place (range_with_len start k)) n ∙ in_range by_place test start (drop start xs) d above)
+    (ap (λ (k : ℕ). find by_place (range_with_len 0 k)) m ∙ in_range by_place test 0 (take start xs) d below)
 
-pub within_turn : (start count k d : ℕ) → k < length (turn start count) → get_or (turn start count) k d < count
-within_turn start count k d h =
-    let n = length-range_with_len start (count - start) in
-    let m = length-range_with_len 0 (min start count) in
-    let l = length-append (range_with_len start (count - start)) (range_with_len 0 (min start count)) in
-    elim (cases_lt k (count - start)) [
-      | inl a ↦
-          let e = get_or_append_left (range_with_len start (count - start)) (range_with_len 0 (min start count)) d k (omega arith) in
-          let f = get_or-range_with_len start (count - start) k d a in
-          omega arith
-      | inr b ↦
-          let e = get_or-append_right (range_with_len start (count - start)) (range_with_len 0 (min start count)) (count - start) k d n b in
-          let f = get_or-range_with_len 0 (min start count) (k - (count - start)) d (omega arith) in
-          omega arith
-    ]
+-- The first answer, or else the second.
+pub first_or_second : (a b r : Option ℕ) → MatchOption a (r ≡ b) (λ x. r ≡ Some x) → r ≡ option_or a b
+first_or_second None b r h = h
+first_or_second (Some x) b r h = h
 
 pub none_passes : {X : Type 0} (test : X → Bool) (at : ℕ) (xs : List X) → first_place test at xs ≡ None → All (λ x. test x ≡ false) xs
 none_passes test at [] e = All-nil (λ x. test x ≡ false)
@@ -128,6 +99,10 @@ round_some {X = X} test start xs place d e =
         let k : start + (q - start) ≡ place = omega arith in
         let g : get_or (drop start xs) (q - start) d ≡ get_or xs place d = get_or-drop start xs (q - start) d ∙ ap (λ (i : ℕ). get_or xs i d) k in
         (omega arith, ap test (sym g) ∙ p.2)
+
+pub round_within : {X : Type 0} (test : X → Bool) (start : ℕ) (xs : List X) (d : X) (r : Option ℕ) → r ≡ going_round test start xs → IfSome r (λ slot. slot < length xs)
+round_within test start xs d None e = tt
+round_within test start xs d (Some slot) e = (round_some test start xs slot d (sym e)).0
 
 -- From wherever it starts, a search that goes round finds the number where some slot holds it.
 pub round_finds : (number start : ℕ) (slots : List (Option Entry)) (r : Option ℕ) → r ≡ going_round (holds (Some number)) start slots → Finds number slots r
