@@ -16,23 +16,25 @@ use Rattle.packed_log.specs.Log.{room, packed_length, packed, entries_in, found_
 use Rattle.packed_log.specs.Meaning.{LogState, contents_of, Sound}
 use Rattle.packed_log.proofs.Packing.{packed_length_bound, packed_read_back, packed_tail, length-packed, length_one_more, packed_one_more, found_at_place, nothing_at_no_place, block_read_at_place, length_around, packed_one_less}
 
-abbrev pub log_state : (bytes : List ℕ) (held last used : ℕ) → LogState
-log_state bytes held last used = record { bytes = bytes; held = held; last = last; used = used }
+-- A log after one whose lent bytes have become others.
+abbrev pub log_state : (before : LogState) (bytes : List ℕ) (held last used : ℕ) → LogState
+log_state before bytes held last used =
+    record { bytes = record { ref_ptr = before.bytes.ref_ptr; ghost_name = before.bytes.ghost_name; now = bytes }; held = held; last = last; used = used }
 
 -- A log in bytes that were lent, with these contents.
 pub record LaidOut (s : LogState) (lent : List ℕ) (c : Contents) : Type 0 where
   pub contents : contents_of s ≡ c
   pub sound : Sound s
-  pub laid : s.bytes ≡ packed (room lent) (contents_of s).held (drop (room lent) lent)
+  pub laid : s.bytes.now ≡ packed (room lent) (contents_of s).held (drop (room lent) lent)
 
 room_within : (lent : List ℕ) → room lent ≤ length lent
 room_within lent = omega arith
 
 laid_out : (s : LogState) (lent : List ℕ) (c : Contents) → Lawful c → c.capacity ≡ capacity_of (length lent)
-    → s.bytes ≡ packed (room lent) c.held (drop (room lent) lent) → s.held ≡ length c.held → s.last ≡ c.last → s.used ≡ packed_length c.held
+    → s.bytes.now ≡ packed (room lent) c.held (drop (room lent) lent) → s.held ≡ length c.held → s.last ≡ c.last → s.used ≡ packed_length c.held
     → LaidOut s lent c
 laid_out s lent c l k b h i u =
-    let bytes : List ℕ = s.bytes in
+    let bytes : List ℕ = s.bytes.now in
     let tail : List ℕ = drop (room lent) lent in
     let f = lawful_storable c l in
     let bound = packed_length_bound c.held f in
@@ -70,10 +72,10 @@ used_bound s h =
 
 pub log_appended : {before : LogState} (number : ℕ) (block : List ℕ) {bytes : List ℕ} → Sound before
     → Ok tt ≡ admission number block (length (contents_of before).held) before.last (contents_of before).capacity → number < 2 ^ 32
-    → bytes ≡ with_entry before.used (entry number block) before.bytes
-    → LaidOut (log_state bytes (before.held + 1) number (before.used + (5 + length block))) before.bytes (appended number block (contents_of before))
+    → bytes ≡ with_entry before.used (entry number block) before.bytes.now
+    → LaidOut (log_state before bytes (before.held + 1) number (before.used + (5 + length block))) before.bytes.now (appended number block (contents_of before))
 log_appended {before = before} number block {bytes} s ok n b =
-    let lent : List ℕ = before.bytes in
+    let lent : List ℕ = before.bytes.now in
     let es : List Entry = (contents_of before).held in
     let e : Entry = entry number block in
     let tail : List ℕ = drop (room lent) lent in
@@ -92,16 +94,16 @@ log_appended {before = before} number block {bytes} s ok n b =
     ∙ ap (over before.used (entry_bytes e)) s.laid
     ∙ ap (λ (k : ℕ). over k (entry_bytes e) (packed (room lent) es tail)) was_used
     ∙ packed_one_more (room lent) es e tail (omega arith) in
-    laid_out (log_state bytes (before.held + 1) number (before.used + (5 + length block))) lent (appended number block (contents_of before))
+    laid_out (log_state before bytes (before.held + 1) number (before.used + (5 + length block))) lent (appended number block (contents_of before))
     (Lawful-appended (contents_of before) number block s.lawful n a) refl (b ∙ written) (omega arith) refl (omega arith)
 
 -- What reading where a found entry begins finds.
 pub block_at_found : {s : LogState} (number : ℕ) (found : Option (ℕ × Entry)) → Sound s → found ≡ found_from number 0 (contents_of s).held
-    → block_at (option_map (λ p. p.0) found) s.bytes ≡ block_of number (contents_of s).held
+    → block_at (option_map (λ p. p.0) found) s.bytes.now ≡ block_of number (contents_of s).held
 block_at_found {s = s} number found h p =
     let es : List Entry = (contents_of s).held in
     ap (block_at (option_map (λ p. p.0) found)) h.laid
-    ∙ block_read_at_place number es (replicate (room s.bytes - packed_length es) 0 ++ drop (room s.bytes) s.bytes) found (lawful_storable (contents_of s) h.lawful) p
+    ∙ block_read_at_place number es (replicate (room s.bytes.now - packed_length es) 0 ++ drop (room s.bytes.now) s.bytes.now) found (lawful_storable (contents_of s) h.lawful) p
 
 -- A found entry's bytes are among those used.
 pub size_within : {s : LogState} (number : ℕ) {place : ℕ} {e : Entry} → Sound s → Some (place, e) ≡ found_from number 0 (contents_of s).held → 5 + length e.block ≤ s.used
@@ -112,10 +114,10 @@ size_within {s = s} number {place} {e} h p =
     omega arith
 
 pub log_dropped : {before : LogState} (number : ℕ) {place size : ℕ} {e : Entry} {bytes : List ℕ} → Sound before → Some (place, e) ≡ found_from number 0 (contents_of before).held
-    → size ≡ 5 + length e.block → bytes ≡ taken_out place size before.used before.bytes
-    → LaidOut (log_state bytes (before.held - 1) before.last (before.used - size)) before.bytes (dropped number (contents_of before))
+    → size ≡ 5 + length e.block → bytes ≡ taken_out place size before.used before.bytes.now
+    → LaidOut (log_state before bytes (before.held - 1) before.last (before.used - size)) before.bytes.now (dropped number (contents_of before))
 log_dropped {before = before} number {place} {size} {e} {bytes} s p z b =
-    let lent : List ℕ = before.bytes in
+    let lent : List ℕ = before.bytes.now in
     let es : List Entry = (contents_of before).held in
     let tail : List ℕ = drop (room lent) lent in
     let f = found_at_place number 0 place e es (sym p) in
@@ -131,7 +133,7 @@ log_dropped {before = before} number {place} {size} {e} {bytes} s p z b =
     ap (taken_out place size before.used) s.laid
     ∙ ap (λ (k : ℕ). taken_out place size k (packed (room lent) es tail)) was_used
     ∙ packed_one_less (room lent) number place size e es tail f z (omega arith) in
-    laid_out (log_state bytes (before.held - 1) before.last (before.used - size)) lent (dropped number (contents_of before))
+    laid_out (log_state before bytes (before.held - 1) before.last (before.used - size)) lent (dropped number (contents_of before))
     (Lawful-dropped (contents_of before) number s.lawful) refl (b ∙ written) (omega arith) refl (omega arith)
 
 -- What a drop answers, by what was found.

@@ -3,4 +3,4 @@ use Rattle.packed_log.specs.Meaning.{LogState}
 use Rattle.packed_log.specs.declared.log.PackedLog.TheInside.{Inside}
 
 abbrev pub state_of : Inside → LogState
-state_of s = record { bytes = s.bytes.now; held = s.held; last = s.last; used = s.used }
+state_of s = record { bytes = s.bytes; held = s.held; last = s.last; used = s.used }

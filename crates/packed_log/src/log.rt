@@ -46,7 +46,7 @@ impl<'a> PackedLog<'a> {
     pub fn new(bytes: &'a mut [u8]) -> PackedLog<'a>
         ensures contents { contents_of result ≡ emptied (capacity_of (length bytes.old)) }
         ensures lawful { Lawful (contents_of result) }
-        ensures bytes { result.bytes ≡ replicate (room bytes.old) 0 ++ drop (room bytes.old) bytes.old }
+        ensures bytes { result.bytes.now ≡ replicate (room bytes.old) 0 ++ drop (room bytes.old) bytes.old }
     {
         // As in the slot store, here and in `clear` and `standing`: each store sets and reads fields of its
         // own, and what they share is `fill_zero` and `Standing`.
@@ -62,7 +62,7 @@ impl<'a> PackedLog<'a> {
 
     /// The lent bytes as they stand.
     pub fn bytes(&self) -> &[u8]
-        ensures value { result.now ≡ self.now.bytes }
+        ensures value { result.now ≡ self.now.bytes.now }
         ensures laid { result.now ≡ packed (room result.now) (contents_of self.now).held (drop (room result.now) result.now) }
     {
         self.bytes

@@ -107,9 +107,9 @@ room_has_a_slot bytes next h e =
 
 -- So a store that admits an append has one.
 pub admission_has_a_slot : (v : SlotState) (number : ℕ) (block : List ℕ) → Ok tt ≡ admission number block (length (contents_of v).held) v.last (contents_of v).capacity
-    → going_round (holds None) v.next (slots_of v.bytes) ≡ None → ⊥
+    → going_round (holds None) v.next (slots_of v.bytes.now) ≡ None → ⊥
 admission_has_a_slot v number block admits e =
-    room_has_a_slot v.bytes v.next (admitted number block (length (contents_of v).held) v.last (contents_of v).capacity tt tt admits).0.room e
+    room_has_a_slot v.bytes.now v.next (admitted number block (length (contents_of v).held) v.last (contents_of v).capacity tt tt admits).0.room e
 
 -- What a search by number found.
 

@@ -8,24 +8,24 @@ use Rattle.slot_store.specs.Slots.{slotted, slots_of, tail_of, zeroed_slots}
 use Rattle.slot_store.specs.State.{SlotState}
 
 abbrev pub contents_of : SlotState → Contents
-contents_of s = record { held = ranked (slots_of s.bytes); last = s.last; capacity = capacity_of (length s.bytes) }
+contents_of s = record { held = ranked (slots_of s.bytes.now); last = s.last; capacity = capacity_of (length s.bytes.now) }
 
 -- After an append: the next free slot above the one filled last, going round, holds the entry; no other slot and no byte
 -- behind the slots has changed, and this slot is now the one filled last.
 pub record Filled (e : Entry) (before after : SlotState) : Type 0 where
   pub slot : ℕ
-  pub free : going_round (holds None) before.next (slots_of before.bytes) ≡ Some slot
-  pub bytes : after.bytes ≡ slotted (slice_set (slots_of before.bytes) slot (Some e)) (tail_of before.bytes)
+  pub free : going_round (holds None) before.next (slots_of before.bytes.now) ≡ Some slot
+  pub bytes : after.bytes.now ≡ slotted (slice_set (slots_of before.bytes.now) slot (Some e)) (tail_of before.bytes.now)
   pub next : after.next ≡ suc slot
 
 -- After a drop: the slot that held the number is all zero; no other slot and no byte behind the slots has changed.
 pub record Freed (number : ℕ) (before after : SlotState) : Type 0 where
   pub slot : ℕ
-  pub held : holds (Some number) (slice_index_or (slots_of before.bytes) slot None) ≡ true
-  pub bytes : after.bytes ≡ slotted (slice_set (slots_of before.bytes) slot None) (tail_of before.bytes)
+  pub held : holds (Some number) (slice_index_or (slots_of before.bytes.now) slot None) ≡ true
+  pub bytes : after.bytes.now ≡ slotted (slice_set (slots_of before.bytes.now) slot None) (tail_of before.bytes.now)
   pub next : after.next ≡ before.next
 
 -- After clearing: all slots are zero, and no byte behind them has changed. The next entry goes to the first slot.
 pub record Zeroed (before after : SlotState) : Type 0 where
-  pub bytes : after.bytes ≡ zeroed_slots before.bytes
+  pub bytes : after.bytes.now ≡ zeroed_slots before.bytes.now
   pub next : after.next ≡ 0

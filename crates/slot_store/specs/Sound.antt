@@ -7,7 +7,7 @@ use Rattle.slot_store.specs.State.{SlotState}
 use Rattle.slot_store.specs.declared.slots.SlotStore.TheInside.{Inside}
 
 abbrev pub state_of : Inside → SlotState
-state_of s = record { bytes = s.bytes.now; last = s.last; next = s.next }
+state_of s = record { bytes = s.bytes; last = s.last; next = s.next }
 
 pub record Sound (s : Inside) : Type 0 where
   pub laid : s.bytes.now ≡ slotted (slots_of s.bytes.now) (tail_of s.bytes.now)

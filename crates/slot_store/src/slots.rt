@@ -44,7 +44,7 @@ impl<'a> SlotStore<'a> {
     pub fn new(bytes: &'a mut [u8]) -> SlotStore<'a>
         ensures contents { contents_of result ≡ emptied (capacity_of (length bytes.old)) }
         ensures lawful { Lawful (contents_of result) }
-        ensures bytes { result.bytes ≡ zeroed_slots bytes.old }
+        ensures bytes { result.bytes.now ≡ zeroed_slots bytes.old }
         ensures next { result.next ≡ 0 }
     {
         // As in the packed log, here and in `clear` and `standing`: each store sets and reads fields of its
@@ -61,7 +61,7 @@ impl<'a> SlotStore<'a> {
 
     /// The lent bytes as they stand.
     pub fn bytes(&self) -> &[u8]
-        ensures value { result.now ≡ self.now.bytes }
+        ensures value { result.now ≡ self.now.bytes.now }
         ensures laid { result.now ≡ slotted (slots_of result.now) (tail_of result.now) }
     {
         self.bytes
@@ -80,8 +80,8 @@ impl<'a> SlotStore<'a> {
 
     // The next free slot above the one filled last, going round.
     fn free_slot(&self) -> Option<usize>
-        ensures place { result ≡ going_round (holds None) self.now.next (slots_of self.now.bytes) }
-        ensures within { IfSome result (λ slot. slot < capacity_of (length self.now.bytes)) }
+        ensures place { result ≡ going_round (holds None) self.now.next (slots_of self.now.bytes.now) }
+        ensures within { IfSome result (λ slot. slot < capacity_of (length self.now.bytes.now)) }
     {
         slot_from(self.bytes, None, self.next)
     }
@@ -89,7 +89,7 @@ impl<'a> SlotStore<'a> {
     // Where the entry with this number stands if no slot was passed over since it was appended: as
     // far below the slot filled last as its number is below the last number, going round.
     fn likely_slot(&self, number: u32) -> usize
-        ensures { result ≡ likely_slot number self.now.last self.now.next (capacity_of (length self.now.bytes)) }
+        ensures { result ≡ likely_slot number self.now.last self.now.next (capacity_of (length self.now.bytes.now)) }
     {
         let behind = self.last.saturating_sub(number) as usize;
         let newest = self.next.saturating_sub(1);
@@ -101,9 +101,9 @@ impl<'a> SlotStore<'a> {
 
     // The slot of the entry with this number.
     fn slot_of(&self, number: u32) -> Option<usize>
-        ensures place { result ≡ going_round (holds (Some number)) (likely_slot number self.now.last self.now.next (capacity_of (length self.now.bytes))) (slots_of self.now.bytes) }
-        ensures finds { Finds number (slots_of self.now.bytes) result }
-        ensures within { IfSome result (λ slot. slot < capacity_of (length self.now.bytes)) }
+        ensures place { result ≡ going_round (holds (Some number)) (likely_slot number self.now.last self.now.next (capacity_of (length self.now.bytes.now))) (slots_of self.now.bytes.now) }
+        ensures finds { Finds number (slots_of self.now.bytes.now) result }
+        ensures within { IfSome result (λ slot. slot < capacity_of (length self.now.bytes.now)) }
     {
         let start = self.likely_slot(number);
         slot_from(self.bytes, Some(number), start)

@@ -24,7 +24,7 @@ invariant_of-self c =
 pub returns-in_err-slot-clause-drops : goal.returns-in_err-slot-clause-drops
 returns-in_err-slot-clause-drops c =
     let lost = rw c.in_err-slot.ensures.ok_part at c.slot_of.ensures.finds in
-    let none = no_block_found c.args.self.now.bytes c.args.number lost in
+    let none = no_block_found c.args.self.now.bytes.now c.args.number lost in
     let why = rw c.in_err-slot.ensures.ok_part at c.in_err-slot.ensures.value in
     let e : c.in_err-slot.field-0.0 ≡ NoSuchEntry = cc in
     let p = err_from_is_err_and c.from_residual.result c.from_residual.ensures.1 in
