@@ -6,7 +6,7 @@ ghost use Rattle.stores.specs.Contents.{emptied, standing_of};
 ghost use Rattle.stores.specs.Laws.{Lawful};
 ghost use Rattle.entry_layout.specs.Layout.{capacity_of};
 ghost use Rattle.packed_log.specs.Log.{packed, room, found_from};
-ghost use Rattle.packed_log.specs.Meaning.{contents_of, Laid};
+ghost use Rattle.packed_log.specs.Meaning.{contents_of, Sound, Laid};
 ghost use Rattle.packed_log.specs.Walk.{placed};
 
 use crate::moves::take_out;
@@ -45,6 +45,7 @@ impl<'a> PackedLog<'a> {
     /// An empty log in these bytes.
     pub fn new(bytes: &'a mut [u8]) -> PackedLog<'a>
         ensures contents { contents_of result ≡ emptied (capacity_of (length bytes.old)) }
+        ensures sound { Sound result }
         ensures lawful { Lawful (contents_of result) }
         ensures bytes { result.bytes.now ≡ replicate (room bytes.old) 0 ++ drop (room bytes.old) bytes.old }
     {
@@ -99,6 +100,7 @@ impl Store for PackedLog<'_> {
 
     fn append(&mut self, number: u32, block: &[u8]) -> Result<(), Refusal>
         ensures appends { Appends number block.now (contents_of self.old) (contents_of self.new) result }
+        ensures sound { Sound self.new }
         ensures lawful { Lawful (contents_of self.new) }
         ensures bytes { Laid self.old self.new }
         ensures same { OnErr result (self.new ≡ self.old) }
@@ -118,6 +120,7 @@ impl Store for PackedLog<'_> {
 
     fn drop_entry(&mut self, number: u32) -> Result<(), Refusal>
         ensures drops { Drops number (contents_of self.old) (contents_of self.new) result }
+        ensures sound { Sound self.new }
         ensures lawful { Lawful (contents_of self.new) }
         ensures bytes { Laid self.old self.new }
         ensures same { OnErr result (self.new ≡ self.old) }
@@ -132,6 +135,7 @@ impl Store for PackedLog<'_> {
 
     fn clear(&mut self)
         ensures cleared { contents_of self.new ≡ emptied (contents_of self.old).capacity }
+        ensures sound { Sound self.new }
         ensures lawful { Lawful (contents_of self.new) }
         ensures bytes { Laid self.old self.new }
     {

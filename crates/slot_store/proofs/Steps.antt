@@ -12,10 +12,7 @@ use Rattle.stores.specs.Laws.{Lawful}
 use Rattle.stores.proofs.Entries.{Lacks, Storable, nothing_found, rising_all_up_to, lacks_if_below, lawful_storable}
 use Rattle.entry_layout.specs.Layout.{block_at, capacity_of, entry_bytes, entry_in, with_entry, zeroed}
 use Rattle.stores.proofs.Kept.{admitted, append_accepted, drop_accepted, Lawful-appended, Lawful-dropped, Lawful-emptied}
-use Rattle.slot_store.specs.Meaning.{contents_of}
-use Rattle.slot_store.specs.Sound.{Sound, state_of}
-use Rattle.slot_store.specs.State.{SlotState}
-use Rattle.slot_store.specs.declared.slots.SlotStore.TheInside.{Inside}
+use Rattle.slot_store.specs.Meaning.{SlotState, contents_of, Sound}
 use Rattle.slot_store.specs.Ranked.{placed, ranked}
 use Rattle.slot_store.specs.Search.{Finds, going_round, holds}
 use Rattle.slot_store.specs.Slots.{slotted, slots_of, tail_of, zeroed_slots}
@@ -41,15 +38,15 @@ contents_of_relaid bytes after last new held r e =
 
 -- An entry appended to a store with these fields.
 
-pub record Appended (s : Inside) (after : List ℕ) (slot : ℕ) (e : Entry) : Type 0 where
+pub record Appended (s : SlotState) (after : List ℕ) (slot : ℕ) (e : Entry) : Type 0 where
   pub free : going_round (holds None) s.next (slots_of s.bytes.now) ≡ Some slot
-  pub accepted : Ok (contents_in after e.number) ≡ appending e.number e.block (contents_of (state_of s))
+  pub accepted : Ok (contents_in after e.number) ≡ appending e.number e.block (contents_of s)
   pub laid : LaidOut after
   pub counted : s.held + 1 ≡ length (contents_in after e.number).held
   pub lawful : Lawful (contents_in after e.number)
   pub filled : after ≡ slotted (set (slots_of s.bytes.now) slot (Some e)) (tail_of s.bytes.now)
 
-pub append_step : (s : Inside) (after : List ℕ) (slot : ℕ) (e : Entry) → Sound s → Ok tt ≡ admission e.number e.block (length (contents_of (state_of s)).held) s.last (capacity_of (length s.bytes.now))
+pub append_step : (s : SlotState) (after : List ℕ) (slot : ℕ) (e : Entry) → Sound s → Ok tt ≡ admission e.number e.block (length (contents_of s).held) s.last (capacity_of (length s.bytes.now))
     → e.number < 2 ^ 32
     → going_round (holds None) s.next (slots_of s.bytes.now) ≡ Some slot → after ≡ with_entry (slot * 69) e s.bytes.now → Appended s after slot e
 append_step store after slot e sound admits narrow g w =
@@ -135,15 +132,15 @@ block_where_found bytes last number (Some slot) l f = (found_block bytes last nu
 
 -- An entry dropped from a store with these fields.
 
-pub record Dropped (s : Inside) (after : List ℕ) (slot number : ℕ) : Type 0 where
+pub record Dropped (s : SlotState) (after : List ℕ) (slot number : ℕ) : Type 0 where
   pub held : holds (Some number) (get_or (slots_of s.bytes.now) slot None) ≡ true
-  pub accepted : Ok (contents_in after s.last) ≡ dropping number (contents_of (state_of s))
+  pub accepted : Ok (contents_in after s.last) ≡ dropping number (contents_of s)
   pub laid : LaidOut after
   pub counted : s.held ≡ length (contents_in after s.last).held + 1
   pub lawful : Lawful (contents_in after s.last)
   pub freed : after ≡ slotted (set (slots_of s.bytes.now) slot None) (tail_of s.bytes.now)
 
-pub drop_step : (s : Inside) (after : List ℕ) (slot number : ℕ) → Sound s → slot < length (slots_of s.bytes.now)
+pub drop_step : (s : SlotState) (after : List ℕ) (slot number : ℕ) → Sound s → slot < length (slots_of s.bytes.now)
     → holds (Some number) (get_or (slots_of s.bytes.now) slot None) ≡ true → after ≡ zeroed (slot * 69) (slot * 69 + 69) s.bytes.now → Dropped s after slot number
 drop_step store after slot number sound h t w =
     let bytes = store.bytes.now in

@@ -2,5 +2,4 @@ pub mod Meaning
 pub mod Ranked
 pub mod Search
 pub mod Slots
-pub mod Sound
 pub mod State

@@ -4,7 +4,7 @@ ghost use Rattle.stores.specs.Calls.{Appends, Drops};
 ghost use Rattle.stores.specs.Contents.{emptied, entry, standing_of};
 ghost use Rattle.stores.specs.Laws.{Lawful};
 ghost use Rattle.entry_layout.specs.Layout.{capacity_of};
-ghost use Rattle.slot_store.specs.Meaning.{contents_of, Filled, Freed, Zeroed};
+ghost use Rattle.slot_store.specs.Meaning.{contents_of, Sound, Filled, Freed, Zeroed};
 ghost use Rattle.slot_store.specs.Search.{Finds, NearestIsFound, going_round, holds, likely_slot};
 ghost use Rattle.slot_store.specs.Slots.{slots_of, slotted, tail_of, zeroed_slots};
 
@@ -28,21 +28,22 @@ pub struct SlotStore<'a> {
 }
 
 impl<'a> Model for SlotStore<'a> {
-    ghost use Rattle.slot_store.specs.State.{SlotState};
+    ghost use Rattle.slot_store.specs.Meaning.{SlotState, Sound};
 
     ghost Value = { SlotState };
 
-    ghost use Rattle.slot_store.specs.Sound.{state_of, Sound};
+    ghost use Rattle.slot_store.specs.State.{state_of};
 
     ghost view = { state_of };
 
-    ghost invariant = { Sound };
+    ghost invariant = { λ s. Sound (state_of s) };
 }
 
 impl<'a> SlotStore<'a> {
     /// An empty store in these bytes.
     pub fn new(bytes: &'a mut [u8]) -> SlotStore<'a>
         ensures contents { contents_of result ≡ emptied (capacity_of (length bytes.old)) }
+        ensures sound { Sound result }
         ensures lawful { Lawful (contents_of result) }
         ensures bytes { result.bytes.now ≡ zeroed_slots bytes.old }
         ensures next { result.next ≡ 0 }
@@ -129,6 +130,7 @@ impl Store for SlotStore<'_> {
 
     fn append(&mut self, number: u32, block: &[u8]) -> Result<(), Refusal>
         ensures appends { Appends number block.now (contents_of self.old) (contents_of self.new) result }
+        ensures sound { Sound self.new }
         ensures lawful { Lawful (contents_of self.new) }
         ensures filled { OnOk result (Filled (entry number block.now) self.old self.new) }
         ensures same { OnErr result (self.new ≡ self.old) }
@@ -149,6 +151,7 @@ impl Store for SlotStore<'_> {
 
     fn drop_entry(&mut self, number: u32) -> Result<(), Refusal>
         ensures drops { Drops number (contents_of self.old) (contents_of self.new) result }
+        ensures sound { Sound self.new }
         ensures lawful { Lawful (contents_of self.new) }
         ensures freed { OnOk result (Freed number self.old self.new) }
         ensures same { OnErr result (self.new ≡ self.old) }
@@ -162,6 +165,7 @@ impl Store for SlotStore<'_> {
 
     fn clear(&mut self)
         ensures cleared { contents_of self.new ≡ emptied (contents_of self.old).capacity }
+        ensures sound { Sound self.new }
         ensures lawful { Lawful (contents_of self.new) }
         ensures zeroed { Zeroed self.old self.new }
     {

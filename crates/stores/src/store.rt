@@ -33,7 +33,8 @@ pub trait Store {
     /// Writes the entry's block to the front of the buffer and answers its length. The buffer is the
     /// caller's, as all memory of a vault is.
     fn read(&self, number: u32, buffer: &mut [u8]) -> Result<usize, Refusal>
-        ensures { Reads number (contents self.now) buffer.old buffer.new result };
+        ensures reads { Reads number (contents self.now) buffer.old buffer.new result }
+        ensures lawful { Lawful (contents self.now) };
 
     /// Takes the entry out. Its number is not accepted again.
     fn drop_entry(&mut self, number: u32) -> Result<(), Refusal>

@@ -14,6 +14,7 @@ returns c =
     let done = log_appended c.args.number c.args.block.now c.self.invariant admitted c.ranges.number.fits c.write.ensures in
     rw (← c.self.view_is) (record {
       appends = record { answered = append_accepted _ _ c.args.number c.args.block.now _ _ admitted refl refl done.contents; unaltered = tt };
+      sound = done.sound;
       lawful = done.sound.lawful;
       bytes = done.laid;
       same = tt;

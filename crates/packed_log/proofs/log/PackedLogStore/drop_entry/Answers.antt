@@ -41,6 +41,7 @@ returns c =
     let done = log_dropped c.args.number c.self.invariant found c.size-size.ensures c.take_out.ensures in
     rw (← c.self.view_is) (record {
       drops = record { answered = drop_found _ _ c.args.number found done.contents; unaltered = tt };
+      sound = done.sound;
       lawful = done.sound.lawful;
       bytes = done.laid;
       same = tt;

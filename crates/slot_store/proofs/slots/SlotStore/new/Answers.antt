@@ -10,4 +10,4 @@ invariant_of-result c =
 pub returns : goal.returns
 returns c =
     let k = clear_step c.args.bytes.now (rw c.capacity_of-end.ensures at c.fill_zero.ensures) in
-    record { contents = k.contents; lawful = k.lawful; bytes = k.zeroed; next = refl }
+    record { contents = k.contents; sound = record { laid = k.laid; counted = k.counted; lawful = k.lawful }; lawful = k.lawful; bytes = k.zeroed; next = refl }
