@@ -6,56 +6,55 @@ use thiserror::Error;
 
 /// The reasons for turning a call down, by the numbers under which callers know them. A refusal
 /// shows its number and its reason, as `24 number beyond its limit`.
-// The number stands in the text too, since a derive's text is fixed. Tests hold the two together.
 #[derive(Clone, Copy, PartialEq, Eq, Debug, Error)]
 pub enum Refusal {
-    #[error("1 not a valid name")]
+    #[error("{} not a valid name", self.number())]
     InvalidName = 1,
-    #[error("2 block number above 63")]
+    #[error("{} block number above 63", self.number())]
     BlockNumberTooLarge = 2,
-    #[error("3 not 1 to 64 bytes")]
+    #[error("{} not 1 to 64 bytes", self.number())]
     InvalidLength = 3,
-    #[error("4 buffer too short")]
+    #[error("{} buffer too short", self.number())]
     BufferTooShort = 4,
-    #[error("5 moment above now or not kept")]
+    #[error("{} moment above now or not kept", self.number())]
     MomentNotKept = 5,
-    #[error("6 no such directory")]
+    #[error("{} no such directory", self.number())]
     NoSuchDirectory = 6,
-    #[error("7 no such name")]
+    #[error("{} no such name", self.number())]
     NoSuchName = 7,
-    #[error("8 no such file")]
+    #[error("{} no such file", self.number())]
     NoSuchFile = 8,
-    #[error("9 no such block")]
+    #[error("{} no such block", self.number())]
     NoSuchBlock = 9,
-    #[error("10 directory not empty")]
+    #[error("{} directory not empty", self.number())]
     DirectoryNotEmpty = 10,
-    #[error("11 name in use")]
+    #[error("{} name in use", self.number())]
     NameInUse = 11,
-    #[error("12 a directory stays in its directory")]
+    #[error("{} a directory stays in its directory", self.number())]
     DirectoryWouldMove = 12,
-    #[error("13 file stands under another name")]
+    #[error("{} file stands under another name", self.number())]
     FileElsewhere = 13,
-    #[error("14 all object numbers given")]
+    #[error("{} all object numbers given", self.number())]
     ObjectsExhausted = 14,
-    #[error("15 all moments spent")]
+    #[error("{} all moments spent", self.number())]
     MomentsExhausted = 15,
-    #[error("16 name history full")]
+    #[error("{} name history full", self.number())]
     NamesFull = 16,
-    #[error("17 block versions full")]
+    #[error("{} block versions full", self.number())]
     BlocksFull = 17,
-    #[error("18 entry number not above the last")]
+    #[error("{} entry number not above the last", self.number())]
     EntryNotAboveLast = 18,
-    #[error("19 store full")]
+    #[error("{} store full", self.number())]
     StoreFull = 19,
-    #[error("20 no such entry")]
+    #[error("{} no such entry", self.number())]
     NoSuchEntry = 20,
-    #[error("21 moment too low or already used for this key")]
+    #[error("{} moment too low or already used for this key", self.number())]
     MomentTaken = 21,
-    #[error("22 history full")]
+    #[error("{} history full", self.number())]
     HistoryFull = 22,
-    #[error("23 no such version")]
+    #[error("{} no such version", self.number())]
     NoSuchVersion = 23,
-    #[error("24 number beyond its limit")]
+    #[error("{} number beyond its limit", self.number())]
     BeyondLimit = 24,
 }
 
