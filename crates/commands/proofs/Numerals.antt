@@ -1,34 +1,41 @@
--- Words of decimal digits: they are text, and what `parse` makes of them.
-use Rattle.std.proofs.Common.{◌≡◌, ℕ, true, leb, List, length, Ok, Err, Result, arith, rules}
-use Rattle.std.specs.Char.{is_ascii_digit}
-use Rattle.std.specs.List.{list_all}
-use Rattle.std.specs.Result.{result_or}
-use Rattle.std.specs.Str.{IsUtf8}
-use Rattle.std.specs.Str.Parse.{ParsesUnsigned, digits_value}
+-- Words of decimal digits, and the numbers that they write, read digit by digit.
+use Rattle.std.proofs.Common.{◌≡◌, ℕ, ◌+◌, ◌-◌, ◌*◌, ◌<◌, ◌≤◌, min, true, leb, List, [], ◌∷◌, length, Ok, Err, Result, arith}
+use Rattle.std.specs.Char.{digit_value, is_ascii_digit}
+use Rattle.std.specs.List.{fold, list_all}
+use Rattle.std.specs.Result.{OkIff, result_or}
+use Rattle.std.specs.Str.Parse.{digits_value_after}
 use Rattle.std.proofs.lemmas.Bool.{and_parts}
 use Rattle.std.proofs.lemmas.Bool.Decides.{nat_tests}
-use Rattle.std.proofs.lemmas.Fmt.{IsAscii-from_digits}
-use Rattle.std.proofs.lemmas.Str.{IsUtf8-from_ascii}
-use Rattle.std.proofs.lemmas.Str.Parse.{IsNumeralModel, numerals_by_value, parse_digits}
 use Rattle.commands.specs.Numbers.{number_in}
 use Rattle.commands.specs.Words.{is_numeral}
 use Rattle.commands.specs.declared.fault.Fault.TheVariants.{NumberTooLarge}
 
-digits_model : IsNumeralModel (λ ds. list_all is_ascii_digit ds ≡ true) (digits_value 10)
-digits_model = numerals_by_value _ (search rules)
+-- A number with one more digit, or the largest that 64 bits hold.
+abbrev pub next_value : (value digit : ℕ) → ℕ
+next_value value digit = min (min (value * 10) 18446744073709551615 + (digit - 48)) 18446744073709551615
 
-all_digits : (word : List ℕ) → is_numeral word ≡ true → list_all is_ascii_digit word ≡ true
-all_digits word h = (and_parts (leb 1 (length word)) _ h).1
+digit_bounds : (b : ℕ) → is_ascii_digit b ≡ true → (48 ≤ b) × (b ≤ 57)
+digit_bounds b e = grind (arith, nat_tests)
 
-pub numeral_is_text : (word : List ℕ) → is_numeral word ≡ true → IsUtf8 word
-numeral_is_text word h = IsUtf8-from_ascii word (IsAscii-from_digits word (digits_model.to word (all_digits word h)))
+digit_value_is : (b : ℕ) → 48 ≤ b → b ≤ 57 → digit_value b ≡ b - 48
+digit_value_is b l h = grind (arith, nat_tests)
 
-pub parse_of_numeral : {E : Type 0} (word : List ℕ) (r : Result ℕ E) → is_numeral word ≡ true → ParsesUnsigned 32 10 word r
+value_after : (word : List ℕ) (n v : ℕ) → list_all is_ascii_digit word ≡ true → v ≡ min n 18446744073709551615
+    → fold next_value v word ≡ min (digits_value_after 10 n word) 18446744073709551615
+value_after [] n v h e = e
+value_after (d ∷ word) n v h e =
+    let both = and_parts (is_ascii_digit d) _ h in
+    let b = digit_bounds d both.0 in
+    let g : digit_value d ≡ d - 48 = digit_value_is d b.0 b.1 in
+    value_after word (n * 10 + digit_value d) (next_value v d) both.1 (omega arith)
+
+-- So a word of digits is read as its number, or as one that 32 bits do not hold either.
+pub value_of_numeral : {E : Type 0} (word : List ℕ) (v : ℕ) (r : Result ℕ E) → is_numeral word ≡ true → v ≡ fold next_value 0 word → OkIff r (v < 4294967296) v
     → result_or r (Err NumberTooLarge) ≡ number_in word
 unfolding number_in
-parse_of_numeral {E = E} word (Ok n) h p =
-    let read = parse_digits digits_model {E = E} 32 word (Ok n) p (all_digits word h) in
+value_of_numeral {E = E} word v (Ok n) h e p =
+    let read = value_after word 0 0 (and_parts (leb 1 (length word)) _ h).1 (omega arith) in
     rw h (grind (arith, nat_tests))
-parse_of_numeral {E = E} word (Err e) h p =
-    let unread = parse_digits digits_model {E = E} 32 word (Err e) p (all_digits word h) in
+value_of_numeral {E = E} word v (Err x) h e p =
+    let read = value_after word 0 0 (and_parts (leb 1 (length word)) _ h).1 (omega arith) in
     rw h (grind (arith, nat_tests))
