@@ -3,6 +3,7 @@
 
 #[cfg(test)]
 mod both_stores;
+pub mod lent;
 #[cfg(test)]
 mod log_bytes;
 #[cfg(test)]
