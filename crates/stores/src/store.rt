@@ -9,7 +9,8 @@ use values::refusal::Refusal;
 /// Keeps blocks of 1 to 64 bytes, each under a number of its own.
 ///
 /// Every value of a store is sound, as its type says, so each clause below holds of every call. A
-/// type's invariant is not seen from outside: so the clauses `lawful` say what it tells of contents.
+/// type's invariant is not seen from outside: so the clauses `lawful` and `before` say what it tells
+/// of contents.
 pub trait Store {
     /// What the store holds: its entries by rising number, the last number accepted, and how many
     /// entries it has room for.
@@ -28,6 +29,7 @@ pub trait Store {
     /// Adds an entry. Its number must be above every number accepted so far.
     fn append(&mut self, number: u32, block: &[u8]) -> Result<(), Refusal>
         ensures appends { Appends number block.now (contents self.old) (contents self.new) result }
+        ensures before { Lawful (contents self.old) }
         ensures lawful { Lawful (contents self.new) };
 
     /// Writes the entry's block to the front of the buffer and answers its length. The buffer is the
@@ -39,11 +41,13 @@ pub trait Store {
     /// Takes the entry out. Its number is not accepted again.
     fn drop_entry(&mut self, number: u32) -> Result<(), Refusal>
         ensures drops { Drops number (contents self.old) (contents self.new) result }
+        ensures before { Lawful (contents self.old) }
         ensures lawful { Lawful (contents self.new) };
 
     /// Takes every entry out and begins again, as after making.
     fn clear(&mut self)
         ensures cleared { contents self.new ≡ emptied (contents self.old).capacity }
+        ensures before { Lawful (contents self.old) }
         ensures lawful { Lawful (contents self.new) };
 }
 
