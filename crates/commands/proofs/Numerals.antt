@@ -1,18 +1,19 @@
 -- Words of decimal digits, and the numbers that they write, read digit by digit.
-use Rattle.std.proofs.Common.{◌≡◌, ℕ, ◌+◌, ◌-◌, ◌*◌, ◌<◌, ◌≤◌, min, true, leb, List, [], ◌∷◌, length, Ok, Err, Result, arith}
+use Rattle.std.proofs.Common.{bit_and, ◌%◌, ◌≡◌, ℕ, ◌+◌, ◌-◌, ◌*◌, ◌<◌, ◌≤◌, min, true, leb, List, [], ◌∷◌, length, Ok, Err, Result, arith}
 use Rattle.std.specs.Char.{digit_value, is_ascii_digit}
 use Rattle.std.specs.List.{fold, list_all}
 use Rattle.std.specs.Result.{OkIff, result_or}
 use Rattle.std.specs.Str.Parse.{digits_value_after}
 use Rattle.std.proofs.lemmas.Bool.{and_parts}
+use Rattle.std.proofs.lemmas.Nat.{and_mask}
 use Rattle.std.proofs.lemmas.Bool.Decides.{nat_tests}
 use Rattle.commands.specs.Numbers.{number_in}
 use Rattle.commands.specs.Words.{is_numeral}
 use Rattle.commands.specs.declared.fault.Fault.TheVariants.{NumberTooLarge}
 
--- A number with one more digit, or the largest that 64 bits hold.
+-- A number with one more digit, cut where 32 bits do not hold it.
 abbrev pub next_value : (value digit : ℕ) → ℕ
-next_value value digit = min (min (value * 10) 18446744073709551615 + (digit - 48)) 18446744073709551615
+next_value value digit = min value 4294967296 * 10 + bit_and digit 15
 
 digit_bounds : (b : ℕ) → is_ascii_digit b ≡ true → (48 ≤ b) × (b ≤ 57)
 digit_bounds b e = grind (arith, nat_tests)
@@ -20,13 +21,14 @@ digit_bounds b e = grind (arith, nat_tests)
 digit_value_is : (b : ℕ) → 48 ≤ b → b ≤ 57 → digit_value b ≡ b - 48
 digit_value_is b l h = grind (arith, nat_tests)
 
-value_after : (word : List ℕ) (n v : ℕ) → list_all is_ascii_digit word ≡ true → v ≡ min n 18446744073709551615
-    → fold next_value v word ≡ min (digits_value_after 10 n word) 18446744073709551615
+value_after : (word : List ℕ) (n v : ℕ) → list_all is_ascii_digit word ≡ true → min v 4294967296 ≡ min n 4294967296
+    → min (fold next_value v word) 4294967296 ≡ min (digits_value_after 10 n word) 4294967296
 value_after [] n v h e = e
 value_after (d ∷ word) n v h e =
     let both = and_parts (is_ascii_digit d) _ h in
     let b = digit_bounds d both.0 in
     let g : digit_value d ≡ d - 48 = digit_value_is d b.0 b.1 in
+    let m : bit_and d 15 ≡ d % 16 = and_mask d 4 in
     value_after word (n * 10 + digit_value d) (next_value v d) both.1 (omega arith)
 
 -- So a word of digits is read as its number, or as one that 32 bits do not hold either.

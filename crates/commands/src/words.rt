@@ -51,6 +51,9 @@ fn is_numeral(word: &[u8]) -> bool
     !word.is_empty() && word.iter().all(|byte| byte.is_ascii_digit())
 }
 
+// The least number that a command does not take.
+const TOO_LARGE: u64 = 1 << 32;
+
 /// The number that a word writes in decimal digits.
 pub fn number(word: &[u8]) -> Result<u32, Fault>
     ensures { result ≡ number_in word.now }
@@ -58,10 +61,10 @@ pub fn number(word: &[u8]) -> Result<u32, Fault>
     if !is_numeral(word) {
         return Err(Fault::NotANumber);
     }
-    // Not by `from_utf8` and `parse`, which take twice as long where a word has few digits.
-    let value = word.iter().fold(0u64, |value, digit| {
-        let digit = u64::from(digit.saturating_sub(b'0'));
-        value.saturating_mul(10).saturating_add(digit)
+    // Not by `from_utf8` and `parse`, which take twice as long where a word has few digits. A value
+    // that 32 bits do not hold is cut, and stays too large.
+    let value = word.iter().fold(0, |value: u64, digit| {
+        value.min(TOO_LARGE) * 10 + u64::from(digit & 0x0F)
     });
     u32::try_from(value).or(Err(Fault::NumberTooLarge))
 }
