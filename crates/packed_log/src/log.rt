@@ -90,6 +90,10 @@ impl<'a> PackedLog<'a> {
 impl Store for PackedLog<'_> {
     ghost contents = { contents_of };
 
+    ghost sound = { Sound };
+
+    ghost lawful = { λ s h. h.lawful };
+
     fn held(&self) -> usize {
         self.held
     }
@@ -101,7 +105,6 @@ impl Store for PackedLog<'_> {
     fn append(&mut self, number: u32, block: &[u8]) -> Result<(), Refusal>
         ensures appends { Appends number block.now (contents_of self.old) (contents_of self.new) result }
         ensures sound { Sound self.new }
-        ensures before { Lawful (contents_of self.old) }
         ensures lawful { Lawful (contents_of self.new) }
         ensures bytes { Laid self.old self.new }
         ensures same { OnErr result (self.new ≡ self.old) }
@@ -122,7 +125,6 @@ impl Store for PackedLog<'_> {
     fn drop_entry(&mut self, number: u32) -> Result<(), Refusal>
         ensures drops { Drops number (contents_of self.old) (contents_of self.new) result }
         ensures sound { Sound self.new }
-        ensures before { Lawful (contents_of self.old) }
         ensures lawful { Lawful (contents_of self.new) }
         ensures bytes { Laid self.old self.new }
         ensures same { OnErr result (self.new ≡ self.old) }
@@ -138,7 +140,6 @@ impl Store for PackedLog<'_> {
     fn clear(&mut self)
         ensures cleared { contents_of self.new ≡ emptied (contents_of self.old).capacity }
         ensures sound { Sound self.new }
-        ensures before { Lawful (contents_of self.old) }
         ensures lawful { Lawful (contents_of self.new) }
         ensures bytes { Laid self.old self.new }
     {

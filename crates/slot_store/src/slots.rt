@@ -120,6 +120,10 @@ pub fn nearest_is_found()
 impl Store for SlotStore<'_> {
     ghost contents = { contents_of };
 
+    ghost sound = { Sound };
+
+    ghost lawful = { λ s h. h.lawful };
+
     fn held(&self) -> usize {
         self.held
     }
@@ -131,7 +135,6 @@ impl Store for SlotStore<'_> {
     fn append(&mut self, number: u32, block: &[u8]) -> Result<(), Refusal>
         ensures appends { Appends number block.now (contents_of self.old) (contents_of self.new) result }
         ensures sound { Sound self.new }
-        ensures before { Lawful (contents_of self.old) }
         ensures lawful { Lawful (contents_of self.new) }
         ensures filled { OnOk result (Filled (entry number block.now) self.old self.new) }
         ensures same { OnErr result (self.new ≡ self.old) }
@@ -153,7 +156,6 @@ impl Store for SlotStore<'_> {
     fn drop_entry(&mut self, number: u32) -> Result<(), Refusal>
         ensures drops { Drops number (contents_of self.old) (contents_of self.new) result }
         ensures sound { Sound self.new }
-        ensures before { Lawful (contents_of self.old) }
         ensures lawful { Lawful (contents_of self.new) }
         ensures freed { OnOk result (Freed number self.old self.new) }
         ensures same { OnErr result (self.new ≡ self.old) }
@@ -168,7 +170,6 @@ impl Store for SlotStore<'_> {
     fn clear(&mut self)
         ensures cleared { contents_of self.new ≡ emptied (contents_of self.old).capacity }
         ensures sound { Sound self.new }
-        ensures before { Lawful (contents_of self.old) }
         ensures lawful { Lawful (contents_of self.new) }
         ensures zeroed { Zeroed self.old self.new }
     {

@@ -8,13 +8,18 @@ use values::refusal::Refusal;
 
 /// Keeps blocks of 1 to 64 bytes, each under a number of its own.
 ///
-/// Every value of a store is sound, as its type says, so each clause below holds of every call. A
-/// type's invariant is not seen from outside: so the clauses `lawful` and `before` say what it tells
-/// of contents.
+/// What a store keeps true of itself is the invariant of its type, so each clause below holds of
+/// every call. Generic code does not see an invariant: `sound` tells it of one.
 pub trait Store {
     /// What the store holds: its entries by rising number, the last number accepted, and how many
     /// entries it has room for.
     ghost contents: { Self → Contents };
+
+    /// What the store keeps true of itself.
+    ghost sound: { Self → Type 0 };
+
+    /// What holds of the contents of every sound store.
+    ghost lawful: { (s : Self) → sound s → Lawful (contents s) };
 
     /// How many entries the store holds.
     fn held(&self) -> usize
@@ -29,25 +34,24 @@ pub trait Store {
     /// Adds an entry. Its number must be above every number accepted so far.
     fn append(&mut self, number: u32, block: &[u8]) -> Result<(), Refusal>
         ensures appends { Appends number block.now (contents self.old) (contents self.new) result }
-        ensures before { Lawful (contents self.old) }
+        ensures sound { sound self.new }
         ensures lawful { Lawful (contents self.new) };
 
     /// Writes the entry's block to the front of the buffer and answers its length. The buffer is the
     /// caller's, as all memory of a vault is.
     fn read(&self, number: u32, buffer: &mut [u8]) -> Result<usize, Refusal>
-        ensures reads { Reads number (contents self.now) buffer.old buffer.new result }
-        ensures lawful { Lawful (contents self.now) };
+        ensures { Reads number (contents self.now) buffer.old buffer.new result };
 
     /// Takes the entry out. Its number is not accepted again.
     fn drop_entry(&mut self, number: u32) -> Result<(), Refusal>
         ensures drops { Drops number (contents self.old) (contents self.new) result }
-        ensures before { Lawful (contents self.old) }
+        ensures sound { sound self.new }
         ensures lawful { Lawful (contents self.new) };
 
     /// Takes every entry out and begins again, as after making.
     fn clear(&mut self)
         ensures cleared { contents self.new ≡ emptied (contents self.old).capacity }
-        ensures before { Lawful (contents self.old) }
+        ensures sound { sound self.new }
         ensures lawful { Lawful (contents self.new) };
 }
 

@@ -1,6 +1,7 @@
 //! What a caller of a store over lent bytes can rely on, each as a contract that the store's own
 //! contracts prove without a proof file.
 ghost use Rattle.std.specs.Prelude.{◌≡◌, OnErr, length};
+ghost use Rattle.stores.specs.Laws.{Lawful};
 ghost use Rattle.slot_store.specs.Meaning.{contents_of};
 ghost use Rattle.slot_store.specs.Slots.{slots_of, slotted, tail_of};
 ghost use Rattle.packed_log.specs.Log.{packed_length};
@@ -40,3 +41,31 @@ pub fn clear_log(log: &mut PackedLog<'_>)
 {
     log.clear();
 }
+
+/// Generic code is told that a store is sound, and passes it on.
+pub fn clear_any<S: Store>(store: &mut S)
+    ensures { S.Store.sound store.new }
+{
+    store.clear();
+}
+
+/// So a caller that knows which store it is learns what this store keeps true of itself.
+pub fn clear_any_slots(store: &mut SlotStore<'_>)
+    ensures laid { store.new.bytes.now ≡ slotted (slots_of store.new.bytes.now) (tail_of store.new.bytes.now) }
+    ensures counted { store.new.held ≡ length (contents_of store.new).held }
+{
+    clear_any(store);
+}
+
+/// And of a log.
+pub fn clear_any_log(log: &mut PackedLog<'_>)
+    ensures used { log.new.used ≡ packed_length (log_contents log.new).held }
+    ensures counted { log.new.held ≡ length (log_contents log.new).held }
+{
+    clear_any(log);
+}
+
+/// The contents of a sound store are lawful, before any call.
+pub fn contents_are_lawful<S: Store>(_store: &S)
+    ensures { S.Store.sound _store.now → Lawful (S.Store.contents _store.now) }
+{}

@@ -24,6 +24,7 @@ pub struct Owner<S: Store> {
 impl<S: Store> Owner<S> {
     /// Takes over a store, whatever it held, and clears it.
     pub fn new(mut store: S) -> Owner<S>
+        ensures sound { S.Store.sound result.store }
         ensures contents { S.Store.contents result.store ≡ emptied (S.Store.contents store).capacity }
         ensures lawful { Lawful (S.Store.contents result.store) }
         ensures next { result.next ≡ 1 }
@@ -34,6 +35,7 @@ impl<S: Store> Owner<S> {
 
     /// Appends a block under the next number, and answers the number.
     pub fn add(&mut self, block: &[u8]) -> Result<u32, Refusal>
+        ensures sound { S.Store.sound self.old.store → S.Store.sound self.new.store }
         ensures lawful { Lawful (S.Store.contents self.old.store) → Lawful (S.Store.contents self.new.store) }
         ensures appends { self.old.next < 1000 → answer (λ _. S.Store.contents self.new.store) result ≡ appending self.old.next block.now (S.Store.contents self.old.store) }
     {

@@ -1,4 +1,4 @@
-//! Calls that are refused, by the number of the refusal, on both stores.
+//! Calls that are refused, and by which refusal, on both stores.
 use crate::memory::{THREE, entry};
 use crate::script::{Script, append, clear, drop_entry, read, read_absent, read_short};
 use std::test::Fail;

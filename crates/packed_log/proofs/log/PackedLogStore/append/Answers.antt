@@ -15,7 +15,6 @@ returns c =
     rw (← c.self.view_is) (record {
       appends = record { answered = append_accepted _ _ c.args.number c.args.block.now _ _ admitted refl refl done.contents; unaltered = tt };
       sound = done.sound;
-      before = c.self.invariant.lawful;
       lawful = done.sound.lawful;
       bytes = done.laid;
       same = tt;

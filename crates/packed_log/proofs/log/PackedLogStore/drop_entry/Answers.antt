@@ -42,7 +42,6 @@ returns c =
     rw (← c.self.view_is) (record {
       drops = record { answered = drop_found _ _ c.args.number found done.contents; unaltered = tt };
       sound = done.sound;
-      before = c.self.invariant.lawful;
       lawful = done.sound.lawful;
       bytes = done.laid;
       same = tt;

@@ -6,8 +6,8 @@ use Rattle.packed_log.specs.Walk.{placed}
 use Rattle.packed_log.proofs.Steps.{block_at_found}
 use Rattle.packed_log.proofs.log.PackedLogStore.read.Goals as goal
 
-pub returns-clause-reads : goal.returns-clause-reads
-returns-clause-reads c =
+pub returns : goal.returns
+returns c =
     let found = option_map placed c.find.result in
     let place : c.map-at.result ≡ option_map (λ p. p.0) found = search rules in
     let block = block_at_found c.args.number found c.self.invariant (rw (← c.self.view_is) at c.find.ensures) in

@@ -30,7 +30,6 @@ returns c =
     rw (← c.self.view_is) (record {
       appends = record { answered = a.accepted; unaltered = tt };
       sound = record { laid = a.laid; counted = a.counted; lawful = a.lawful };
-      before = c.self.invariant.lawful;
       lawful = a.lawful;
       filled = record { slot = c.in_ok-slot.slot; free = a.free; bytes = a.filled; next = add-one c.in_ok-slot.slot };
       same = tt;

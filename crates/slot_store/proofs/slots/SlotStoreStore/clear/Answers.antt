@@ -10,4 +10,4 @@ invariant_of-self c =
 pub returns : goal.returns
 returns c =
     let k = clear_step c.self.inside.bytes.now (rw (c.capacity-end.ensures.room, ← c.self.view_is) at c.fill_zero.ensures) in
-    rw (← c.self.view_is) (record { cleared = k.contents; sound = record { laid = k.laid; counted = k.counted; lawful = k.lawful }; before = c.self.invariant.lawful; lawful = k.lawful; zeroed = record { bytes = k.zeroed; next = refl } })
+    rw (← c.self.view_is) (record { cleared = k.contents; sound = record { laid = k.laid; counted = k.counted; lawful = k.lawful }; lawful = k.lawful; zeroed = record { bytes = k.zeroed; next = refl } })

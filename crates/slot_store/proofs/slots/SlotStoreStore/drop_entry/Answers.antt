@@ -37,7 +37,6 @@ returns c =
     rw (← c.self.view_is) (record {
       drops = record { answered = d.accepted; unaltered = tt };
       sound = record { laid = d.laid; counted = omega arith; lawful = d.lawful };
-      before = c.self.invariant.lawful;
       lawful = d.lawful;
       freed = record { slot = c.in_ok-slot.slot; held = d.held; bytes = d.freed; next = refl };
       same = tt;

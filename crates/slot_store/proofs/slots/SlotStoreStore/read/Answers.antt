@@ -8,8 +8,8 @@ use Rattle.slot_store.specs.Slots.{slots_of}
 use Rattle.slot_store.proofs.Steps.{block_where_found}
 use Rattle.slot_store.proofs.slots.SlotStoreStore.read.Goals as goal
 
-pub returns-clause-reads : goal.returns-clause-reads
-returns-clause-reads c =
+pub returns : goal.returns
+returns c =
     let bytes = c.self.inside.bytes.now in
     let place : c.map-place.result ≡ option_map (λ slot. slot * 69) c.slot_of.result = search rules in
     let e : block_at c.map-place.result bytes ≡ block_of c.args.number (ranked (slots_of bytes)) =
