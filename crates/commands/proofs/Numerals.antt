@@ -11,7 +11,7 @@ use Rattle.commands.specs.Numbers.{number_in}
 use Rattle.commands.specs.Words.{is_numeral}
 use Rattle.commands.specs.declared.fault.Fault.TheVariants.{NumberTooLarge}
 
--- A number with one more digit, cut where 32 bits do not hold it.
+-- A number, cut where 32 bits do not hold it, with one more digit.
 abbrev pub next_value : (value digit : ℕ) → ℕ
 next_value value digit = min value 4294967296 * 10 + bit_and digit 15
 

@@ -62,8 +62,8 @@ pub fn number(word: &[u8]) -> Result<u32, Fault>
         return Err(Fault::NotANumber);
     }
     // Not by `from_utf8` and `parse`, which take twice as long where a word has few digits. The low
-    // half of a digit's byte is its value. A value that 32 bits do not hold is cut, and stays too
-    // large.
+    // half of a digit's byte is its value. A value that 32 bits do not hold is cut before the next
+    // digit, and stays too large.
     let value = word.iter().fold(0, |value: u64, digit| {
         value.min(TOO_LARGE) * 10 + u64::from(digit & 0x0F)
     });

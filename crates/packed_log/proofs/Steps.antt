@@ -16,7 +16,7 @@ use Rattle.packed_log.specs.Log.{room, packed_length, packed, entries_in, found_
 use Rattle.packed_log.specs.Meaning.{LogState, contents_of, Sound}
 use Rattle.packed_log.proofs.Packing.{packed_length_bound, packed_read_back, packed_tail, length-packed, length_one_more, packed_one_more, found_at_place, nothing_at_no_place, block_read_at_place, length_around, packed_one_less}
 
--- A log after one whose lent bytes have become others.
+-- What contracts see of a log with other bytes and counters behind the same reference.
 abbrev pub log_state : (before : LogState) (bytes : List ℕ) (held last used : ℕ) → LogState
 log_state before bytes held last used =
     record { bytes = record { ref_ptr = before.bytes.ref_ptr; ghost_name = before.bytes.ghost_name; now = bytes }; held = held; last = last; used = used }

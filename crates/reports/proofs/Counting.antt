@@ -33,11 +33,11 @@ count_by_is_kept kept (suc n) t h =
     ∙ ap₂ (λ (b : Bool) (k : ℕ). cond b 1 0 + k) low (count_by_is_kept kept n (t + 1) (omega arith))
     ∙ sym (sum_by-cons (λ x. cond (kept x) 1 0) t rest)
 
--- A sum of a one for each number that passes the test.
+-- One for a number that passes the test, else zero.
 abbrev pub one_if_kept : (kept : ℕ → Bool) (n : ℕ) → ℕ
 one_if_kept kept n = cond (is_kept kept n) 1 0
 
--- So it counts the kept moments of a stretch.
+-- So their sum counts the kept moments of a stretch.
 pub sum_of_kept : (kept : ℕ → Bool) (first last : ℕ) → first ≤ last → last ≤ 1048575 → sum_by (one_if_kept kept) (range_with_len first (last + 1 - first)) ≡ count_kept kept first last
 unfolding count_kept
 sum_of_kept kept first last ordered h = count_by_is_kept kept (last + 1 - first) first (omega arith)

@@ -32,6 +32,6 @@ pub fn slot_from(bytes: &[u8], sought: Option<u32>, start: usize) -> Option<usiz
 {
     let count = capacity_of(bytes.len());
     let below = start.min(count);
-    // Not one search over a chain of both ranges: it takes half as long again at each slot.
+    // Not one search over a chain of both ranges: such a chain takes up to twice as long.
     first_slot(bytes, sought, start, count).or_else(|| first_slot(bytes, sought, 0, below))
 }

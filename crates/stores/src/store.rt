@@ -9,7 +9,8 @@ use values::refusal::Refusal;
 /// Keeps blocks of 1 to 64 bytes, each under a number of its own.
 ///
 /// What a store keeps true of itself is the invariant of its type, so each clause below holds of
-/// every call. Generic code does not see an invariant: `sound` tells it of one.
+/// every call. Generic code does not see an invariant: `sound` stands for it there, and each call
+/// that alters a store promises it of what it leaves.
 pub trait Store {
     /// What the store holds: its entries by rising number, the last number accepted, and how many
     /// entries it has room for.

@@ -1,5 +1,5 @@
-//! What a caller of a store over lent bytes can rely on, each as a contract that the store's own
-//! contracts prove without a proof file.
+//! What a caller of a store over lent bytes can rely on, each as a contract that the contracts of
+//! the stores, or of [`Store`] alone, prove without a proof file.
 ghost use Rattle.std.specs.Prelude.{◌≡◌, OnErr, length};
 ghost use Rattle.stores.specs.Laws.{Lawful};
 ghost use Rattle.slot_store.specs.Meaning.{contents_of};
